@@ -1,26 +1,29 @@
-//! The command that simulates a whole cluster.
+//! The command that simulates a whole cluster, or two.
 
-ghost use Rattle.std.specs.Prelude.{◌≤◌, IfOk};
+ghost use Rattle.std.specs.Prelude.{◌≡◌, ◌≤◌, IfOk, vec_len};
 ghost use Rattle.apf_matching.specs.Limits.{max_seats};
+ghost use Rattle.apf_objects.specs.Cluster.{most_levels};
+ghost use Rattle.apf_times.specs.Limits.{max_patience};
 
-use crate::audits::log_fault;
+use crate::cluster_faults::{fault_of, fault_of_both, no_level};
 use crate::clusters::read_cluster;
 use crate::faults::Fault;
-use crate::files::{Files, Input, judge_names, open_input};
+use crate::files::{Files, Input, Source, judge_names, open_input};
 use crate::notes::{note_cut, note_patience, note_unnamed};
 use crate::progress::{Amount, Followed, ProgressLine};
-use crate::streaming::lane_fault;
+use crate::second::{Second, judge_all_names, read_scenarios};
 use crate::telling::named;
 use crate::traces::patience_of;
 use apf_audit_reader::{AuditReader, WINDOW};
-use apf_cluster::{
-    ClusterFault, ClusterTerms, LevelTable, TraceFault, flows_in_order, level_named, run_log,
-    write_objects, write_tables, write_trace,
+use apf_changes::Scenario;
+use apf_cluster::{BothTables, ClusterTerms, TraceFault, run_both, run_log, write_trace};
+use apf_cluster_tables::{
+    FlowPair, FlowPlace, LevelTable, Side, flows_in_order, level_named, pairs_in_order,
+    write_both_objects, write_both_tables, write_objects, write_tables,
 };
-use apf_flows::write_text;
-use apf_local::OpenFault;
-use apf_objects::Cluster;
-use std::alloc::{AllocError, Global};
+use apf_cluster_text::write_unsaid;
+use apf_objects::{Cluster, Level};
+use std::alloc::Global;
 use std::io;
 use std::io::{IsTerminal, Write};
 use std::time::Clock;
@@ -39,54 +42,24 @@ pub(crate) struct Simulated<'a> {
     pub(crate) no_lending: bool,
 }
 
-// Writes why the level at this place was not opened.
-fn write_unopened(
-    line: &mut Vec<u8>,
-    cluster: &Cluster,
-    place: usize,
-    fault: &OpenFault,
+// How many requests the server of the log turned away, or as many as are counted at most.
+fn turned_away_of(tables: &[LevelTable]) -> u64 {
+    let mut turned_away: u64 = 0;
+    for table in tables {
+        turned_away = turned_away.saturating_add(table.turned_away);
+    }
+    turned_away
+}
+
+// Writes for people what the requests of each level came to, and what the log does not say of them.
+fn write_lines<O: Write>(
+    levels: &[Level],
+    tables: &[LevelTable],
+    places: &[FlowPlace],
+    out: &mut O,
 ) -> io::Result<()> {
-    line.write_all(b"apf: the level ")?;
-    if let Some(level) = cluster.levels.get(place) {
-        write_text(line, level.name.as_str())?;
-    }
-    writeln!(line, " is not opened: {fault}")
-}
-
-// The fault of a line that says this.
-fn told(alloc: Global, cluster: &Cluster, place: usize, fault: &OpenFault) -> Fault {
-    let mut line = Vec::new(alloc);
-    match write_unopened(&mut line, cluster, place, fault) {
-        Ok(()) => Fault::Told(line),
-        Err(_) => Fault::NoMemory,
-    }
-}
-
-// The fault in its own words.
-fn in_words(alloc: Global, fault: &ClusterFault) -> Fault {
-    let mut line = Vec::new(alloc);
-    match writeln!(&mut line, "apf: {fault}") {
-        Ok(()) => Fault::Told(line),
-        Err(_) => Fault::NoMemory,
-    }
-}
-
-// The fault of a log of this name that was not simulated, whose line that was read last has these bytes.
-fn fault_of(
-    alloc: Global,
-    cluster: &Cluster,
-    log: &str,
-    line: &[u8],
-    fault: ClusterFault,
-) -> Fault {
-    match fault {
-        ClusterFault::Read(fault) => log_fault(alloc, log, line, fault),
-        ClusterFault::Open(place, fault) => told(alloc, cluster, place, &fault),
-        ClusterFault::Level(fault) => lane_fault(fault),
-        ClusterFault::Misread(_) | ClusterFault::Untimely => in_words(alloc, &fault),
-        ClusterFault::TooMany => Fault::TooMany,
-        ClusterFault::NoMemory => Fault::NoMemory,
-    }
+    write_tables(out, levels, tables, places)?;
+    write_unsaid(out, turned_away_of(tables))
 }
 
 // Writes what the requests of each level came to.
@@ -104,9 +77,150 @@ fn write<O: Write>(
     let written = if way.json {
         write_objects(out, levels, tables, places)
     } else {
-        write_tables(out, levels, tables, places)
+        write_lines(levels, tables, places, out)
     };
     written.map_err(|_| Fault::CannotWrite)
+}
+
+// The lines for people of what the requests of each level of both came to, and of what the log does not say. They take memory, so
+// they are made before one is printed.
+fn both_lines(
+    alloc: Global,
+    first: Side<'_>,
+    second: Side<'_>,
+    pairs: &[FlowPair],
+) -> Result<Vec<u8>, Fault> {
+    let mut lines = Vec::new(alloc);
+    if write_both_tables(alloc, &mut lines, first, second, pairs).is_err()
+        || write_unsaid(&mut lines, turned_away_of(first.tables)).is_err()
+    {
+        return Err(Fault::NoMemory);
+    }
+    Ok(lines)
+}
+
+// Writes what the requests of each level of both came to.
+fn write_both<O: Write>(
+    alloc: Global,
+    first: Side<'_>,
+    second: Side<'_>,
+    way: Simulated<'_>,
+    out: &mut O,
+) -> Result<(), Fault> {
+    let pairs = pairs_in_order(alloc, first, second)?;
+    let few = pairs.len().min(way.flows as usize);
+    let pairs = &pairs.as_slice()[..few];
+    let written = if way.json {
+        write_both_objects(out, first, second, pairs)
+    } else {
+        let lines = both_lines(alloc, first, second, pairs)?;
+        out.write_all(lines.as_slice())
+    };
+    written.map_err(|_| Fault::CannotWrite)
+}
+
+// An audit log that is read in pieces, so that it may have any length.
+#[derive(Drop)]
+struct OpenLog<'a, F: Files> {
+    name: &'a str,
+    input: Source<'a, F>,
+    reader: AuditReader,
+}
+
+// Opens the audit log of this name.
+fn open_log<'a, F: Files>(
+    alloc: Global,
+    files: &'a mut F,
+    name: &'a str,
+) -> Result<OpenLog<'a, F>, Fault> {
+    let input = match open_input(files, Input::AuditLog, name) {
+        Ok(input) => input,
+        Err(fault) => return Err(named(alloc, name, fault)),
+    };
+    let reader = AuditReader::new(alloc, WINDOW)?;
+    Ok(OpenLog {
+        name,
+        input,
+        reader,
+    })
+}
+
+// Says what was left out of a log.
+fn note_left_out<E: Write>(reader: &AuditReader, err: &mut E) {
+    note_unnamed(reader.unnamed(), err);
+    note_cut(reader.is_cut(), err);
+}
+
+// How the requests wait, and how many seats there are.
+fn terms_of(way: Simulated<'_>) -> Result<ClusterTerms, Fault>
+    requires { way.seats ≤ max_seats }
+    ensures seats { IfOk result (λ terms. terms.seats ≡ way.entry.seats) }
+    ensures patience { IfOk result (λ terms. terms.patience ≤ max_patience) }
+{
+    Ok(ClusterTerms {
+        seats: way.seats,
+        patience: patience_of(way.patience)?,
+        lends: !way.no_lending,
+    })
+}
+
+// Runs a log on a cluster. How far it is stands on standard error meanwhile.
+fn run_one<'n, F: Files, C: Clock, E: Write + IsTerminal>(
+    alloc: Global,
+    log: &mut OpenLog<'_, F>,
+    cluster: &Cluster,
+    terms: ClusterTerms,
+    clock: &'n C,
+    err: &'n mut E,
+) -> Result<Vec<LevelTable>, Fault>
+    requires levels { vec_len cluster.now.levels ≤ most_levels }
+    requires seats { terms.seats ≤ max_seats }
+    requires patience { terms.patience ≤ max_patience }
+{
+    let amount = Amount::of(log.input.size());
+    let mut line = ProgressLine::new(clock, err, false, &amount);
+    let mut followed = Followed {
+        input: &mut log.input,
+        line: &mut line,
+    };
+    let ran = run_log(alloc, cluster, terms, &mut log.reader, &mut followed);
+    line.clear();
+    match ran {
+        Ok(tables) => Ok(tables),
+        Err(fault) => Err(fault_of(alloc, cluster, log.name, log.reader.line(), fault)),
+    }
+}
+
+// Runs a log on two clusters, in the same way.
+fn run_two<'n, F: Files, C: Clock, E: Write + IsTerminal>(
+    alloc: Global,
+    log: &mut OpenLog<'_, F>,
+    clusters: (&Cluster, &Scenario),
+    terms: ClusterTerms,
+    clock: &'n C,
+    err: &'n mut E,
+) -> Result<BothTables, Fault>
+    requires levels { vec_len clusters.0.now.levels ≤ most_levels }
+    requires seats { terms.seats ≤ max_seats }
+    requires patience { terms.patience ≤ max_patience }
+{
+    let (cluster, scenario) = clusters;
+    let amount = Amount::of(log.input.size());
+    let mut line = ProgressLine::new(clock, err, false, &amount);
+    let mut followed = Followed {
+        input: &mut log.input,
+        line: &mut line,
+    };
+    let reader = &mut log.reader;
+    let ran = run_both(alloc, cluster, scenario, terms, reader, &mut followed);
+    line.clear();
+    match ran {
+        Ok(tables) => Ok(tables),
+        Err(fault) => {
+            let line = log.reader.line();
+            Err(fault_of_both(alloc, cluster, scenario, log.name, line, fault))
+        }
+    }
 }
 
 // Simulates the requests of an audit log on the levels of a cluster, and prints what they came to, by level and by flow. The names
@@ -116,60 +230,90 @@ fn write<O: Write>(
 //
 // The faults of the patience, then those of the files in the order objects, log, then those of the levels and of what runs on them,
 // then those of the output.
-fn print_cluster_run<'n, F: Files, O: Write, C: Clock, E: Write + IsTerminal>(
+fn print_cluster_run<F: Files, O: Write, C: Clock, E: Write + IsTerminal>(
     alloc: Global,
     files: &mut F,
     names: (&str, &str),
     way: Simulated<'_>,
     out: &mut O,
-    clock: &'n C,
-    err: &'n mut E,
+    clock: &C,
+    err: &mut E,
 ) -> Result<(), Fault>
     requires { way.seats ≤ max_seats }
 {
-    let patience = patience_of(way.patience)?;
+    let terms = terms_of(way)?;
     judge_names(&[names.0, names.1])?;
     let cluster = read_cluster(alloc, files, names.0)?;
-    let amount = Amount::of(None);
-    let mut input = match open_input(files, Input::AuditLog, names.1) {
-        Ok(input) => input,
-        Err(fault) => return Err(named(alloc, names.1, fault)),
-    };
-    let mut reader = AuditReader::new(alloc, WINDOW)?;
-    let terms = ClusterTerms {
-        seats: way.seats,
-        patience,
-        lends: !way.no_lending,
-    };
-    let mut line = ProgressLine::new(clock, &mut *err, false, &amount);
-    amount.is_of(input.size());
-    let mut followed = Followed {
-        input: &mut input,
-        line: &mut line,
-    };
-    let ran = run_log(alloc, &cluster, terms, &mut reader, &mut followed);
-    line.clear();
-    drop(line);
-    let tables = match ran {
-        Ok(tables) => tables,
-        Err(fault) => return Err(fault_of(alloc, &cluster, names.1, reader.line(), fault)),
-    };
+    let mut log = open_log(alloc, files, names.1)?;
+    let tables = run_one(alloc, &mut log, &cluster, terms, clock, err)?;
     write(alloc, &cluster, tables.as_slice(), way, out)?;
-    note_unnamed(reader.unnamed(), err);
-    note_cut(reader.is_cut(), err);
+    note_left_out(&log.reader, err);
     Ok(())
 }
 
-// The fault of a level that is not there.
-fn no_level(alloc: Global, name: &str) -> Fault {
-    let mut line = Vec::new(alloc);
-    let written = line
-        .write_all(b"apf: there is no level ")
-        .and_then(|()| write_text(&mut line, name))
-        .and_then(|()| line.write_all(b"\n"));
+// The same on two clusters, side by side.
+//
+// # Errors
+//
+// The faults of the patience, then those of the files in the order objects, objects of the second cluster; then those of its
+// changes, and of the log; then those of the levels and of what runs on them, then those of the output.
+fn print_both_runs<F: Files, O: Write, C: Clock, E: Write + IsTerminal>(
+    alloc: Global,
+    files: &mut F,
+    names: (&str, &str),
+    way: Simulated<'_>,
+    second: Second<'_>,
+    out: &mut O,
+    clock: &C,
+    err: &mut E,
+) -> Result<(), Fault>
+    requires some { 1 ≤ way.seats }
+    requires few { way.seats ≤ max_seats }
+{
+    let terms = terms_of(way)?;
+    judge_all_names(names, second)?;
+    let (cluster, scenario) = read_scenarios(alloc, files, names.0, second, way.seats)?;
+    let mut log = open_log(alloc, files, names.1)?;
+    let both = run_two(alloc, &mut log, (&cluster, &scenario), terms, clock, err)?;
+    let first = Side {
+        levels: cluster.levels.as_slice(),
+        tables: both.first.as_slice(),
+    };
+    let second = Side {
+        levels: scenario.cluster.levels.as_slice(),
+        tables: both.second.as_slice(),
+    };
+    write_both(alloc, first, second, way, out)?;
+    note_left_out(&log.reader, err);
+    Ok(())
+}
+
+// Writes the requests of a log that are of the level at this place, as a trace. How far it is stands on standard error meanwhile,
+// where that is not shared with what is written.
+fn write_requests<'n, F: Files, O: Write, C: Clock, E: Write + IsTerminal>(
+    alloc: Global,
+    log: &mut OpenLog<'_, F>,
+    level: (&Cluster, usize),
+    is_shared: bool,
+    out: &mut O,
+    clock: &'n C,
+    err: &'n mut E,
+) -> Result<(), Fault> {
+    let (cluster, place) = level;
+    let amount = Amount::of(log.input.size());
+    let mut line = ProgressLine::new(clock, err, is_shared, &amount);
+    let mut followed = Followed {
+        input: &mut log.input,
+        line: &mut line,
+    };
+    let written = write_trace(cluster, place, &mut log.reader, &mut followed, out);
+    line.clear();
     match written {
-        Ok(()) => Fault::Told(line),
-        Err(_) => Fault::NoMemory,
+        Ok(()) => Ok(()),
+        Err(TraceFault::CannotWrite) => Err(Fault::CannotWrite),
+        Err(TraceFault::Cluster(fault)) => {
+            Err(fault_of(alloc, cluster, log.name, log.reader.line(), fault))
+        }
     }
 }
 
@@ -180,14 +324,14 @@ fn no_level(alloc: Global, name: &str) -> Fault {
 //
 // The faults of the patience, then those of the files in the order objects, log; a level that is not there before those of the log;
 // the log's first fault behind the lines of the requests before it; those of the output.
-fn print_level_trace<'n, F: Files, O: Write, C: Clock, E: Write + IsTerminal>(
+fn print_level_trace<F: Files, O: Write, C: Clock, E: Write + IsTerminal>(
     alloc: Global,
     files: &mut F,
     names: (&str, &str),
     words: (&str, &str),
     out: &mut O,
-    clock: &'n C,
-    err: &'n mut E,
+    clock: &C,
+    err: &mut E,
 ) -> Result<(), Fault> {
     let (patience, level) = words;
     patience_of(patience)?;
@@ -198,59 +342,70 @@ fn print_level_trace<'n, F: Files, O: Write, C: Clock, E: Write + IsTerminal>(
     };
     // it prints as it goes on
     let is_shared = files.is_shown();
-    let amount = Amount::of(None);
-    let mut input = match open_input(files, Input::AuditLog, names.1) {
-        Ok(input) => input,
-        Err(fault) => return Err(named(alloc, names.1, fault)),
-    };
-    let mut reader = AuditReader::new(alloc, WINDOW)?;
-    let mut line = ProgressLine::new(clock, &mut *err, is_shared, &amount);
-    amount.is_of(input.size());
-    let mut followed = Followed {
-        input: &mut input,
-        line: &mut line,
-    };
-    let written = write_trace(&cluster, place, &mut reader, &mut followed, out);
-    line.clear();
-    drop(line);
-    match written {
-        Ok(()) => {}
-        Err(TraceFault::CannotWrite) => return Err(Fault::CannotWrite),
-        Err(TraceFault::Cluster(fault)) => {
-            return Err(fault_of(alloc, &cluster, names.1, reader.line(), fault));
-        }
-    }
-    note_unnamed(reader.unnamed(), err);
-    note_cut(reader.is_cut(), err);
+    let mut log = open_log(alloc, files, names.1)?;
+    write_requests(
+        alloc,
+        &mut log,
+        (&cluster, place),
+        is_shared,
+        out,
+        clock,
+        err,
+    )?;
+    note_left_out(&log.reader, err);
     Ok(())
 }
 
-/// Simulates the requests of an audit log on the levels of a cluster, or prints those of the level of this name as a trace.
+// Simulates the requests of an audit log on the levels of a cluster, and on those of a second one where it is asked for.
+fn print_runs<F: Files, O: Write, C: Clock, E: Write + IsTerminal>(
+    alloc: Global,
+    files: &mut F,
+    names: (&str, &str),
+    way: Simulated<'_>,
+    second: Second<'_>,
+    out: &mut O,
+    clock: &C,
+    err: &mut E,
+) -> Result<(), Fault>
+    requires some { 1 ≤ way.seats }
+    requires few { way.seats ≤ max_seats }
+{
+    if second.is_asked() {
+        print_both_runs(alloc, files, names, way, second, out, clock, err)?;
+    } else {
+        print_cluster_run(alloc, files, names, way, out, clock, err)?;
+    }
+    note_patience(way.patience, err);
+    Ok(())
+}
+
+/// Simulates the requests of an audit log on the levels of a cluster, and of a second one where it is asked for; or prints those of
+/// the level of this name as a trace.
 ///
 /// # Errors
 ///
-/// `LevelAndTrace` if one of the two is asked for without the other; then those of what is done.
+/// `LevelAndTrace` if one of the two is asked for without the other, `TraceOfTwo` if a second cluster is asked for with both; then
+/// those of what is done.
 pub(crate) fn print_cluster_command<F: Files, O: Write, C: Clock, E: Write + IsTerminal>(
     alloc: Global,
     files: &mut F,
     names: (&str, &str),
     way: Simulated<'_>,
     traced: (Option<&str>, bool),
+    second: Second<'_>,
     out: &mut O,
     clock: &C,
     err: &mut E,
 ) -> Result<(), Fault>
-    requires { way.seats ≤ max_seats }
+    requires some { 1 ≤ way.seats }
+    requires few { way.seats ≤ max_seats }
 {
     match traced {
+        (Some(_), false) | (None, true) => Err(Fault::LevelAndTrace),
+        (Some(_), true) if second.is_asked() => Err(Fault::TraceOfTwo),
         (Some(level), true) => {
             print_level_trace(alloc, files, names, (way.patience, level), out, clock, err)
         }
-        (None, false) => {
-            print_cluster_run(alloc, files, names, way, out, clock, err)?;
-            note_patience(way.patience, err);
-            Ok(())
-        }
-        (Some(_), false) | (None, true) => Err(Fault::LevelAndTrace),
+        (None, false) => print_runs(alloc, files, names, way, second, out, clock, err),
     }
 }

@@ -71,6 +71,40 @@ fn objects_fault(
     }
 }
 
+// Objects that were read: the bytes of their file, and what these are as JSON.
+#[derive(Drop)]
+struct Objects {
+    bytes: Vec<u8>,
+    parsed: Parsed,
+}
+
+// Reads the objects of this name.
+fn read_objects<F: Files>(alloc: Global, files: &mut F, name: &str) -> Result<Objects, Fault>
+    ensures { IfOk result (λ objects. value_in objects.parsed ≡ value_of objects.bytes.items) }
+{
+    let bytes = match read_input(files, Input::Objects, name) {
+        Ok(bytes) => bytes,
+        Err(fault) => return Err(named(alloc, name, fault)),
+    };
+    let parsed = parse(alloc, bytes.as_slice())?;
+    Ok(Objects { bytes, parsed })
+}
+
+// The cluster of the objects of this name.
+fn cluster_of(alloc: Global, name: &str, objects: &Objects) -> Result<Cluster, Fault>
+    requires { value_in objects.now.parsed ≡ value_of objects.now.bytes.items }
+    ensures catch_all { IfOk result HasCatchAll }
+    ensures few { IfOk result (λ cluster. vec_len cluster.levels ≤ most_levels) }
+{
+    match judge_objects(alloc, &objects.parsed) {
+        Ok(cluster) => Ok(cluster),
+        Err(fault) => {
+            let bytes = objects.bytes.as_slice();
+            Err(objects_fault(alloc, name, bytes, &objects.parsed, &fault))
+        }
+    }
+}
+
 /// Reads the objects.
 pub(crate) fn read_cluster<F: Files>(
     alloc: Global,
@@ -80,15 +114,58 @@ pub(crate) fn read_cluster<F: Files>(
     ensures catch_all { IfOk result HasCatchAll }
     ensures few { IfOk result (λ cluster. vec_len cluster.levels ≤ most_levels) }
 {
-    let bytes = match read_input(files, Input::Objects, name) {
-        Ok(bytes) => bytes,
-        Err(fault) => return Err(named(alloc, name, fault)),
+    let objects = read_objects(alloc, files, name)?;
+    cluster_of(alloc, name, &objects)
+}
+
+// The fault with one line more, which says that it is of the objects of this name.
+fn against_fault(alloc: Global, name: &str, fault: Fault) -> Fault {
+    let Fault::Told(mut lines) = fault else {
+        return fault;
     };
-    let parsed = parse(alloc, bytes.as_slice())?;
-    match judge_objects(alloc, &parsed) {
-        Ok(cluster) => Ok(cluster),
-        Err(fault) => Err(objects_fault(alloc, name, bytes.as_slice(), &parsed, &fault)),
+    let name = match shown(alloc, name) {
+        Ok(name) => name,
+        Err(fault) => return fault,
+    };
+    match writeln!(
+        &mut lines,
+        "apf: these are the objects of --against: {name}"
+    ) {
+        Ok(()) => Fault::Told(lines),
+        Err(_) => Fault::NoMemory,
     }
+}
+
+/// Reads the objects of a second cluster. A fault of theirs has a line more, which says so.
+pub(crate) fn read_other<F: Files>(
+    alloc: Global,
+    files: &mut F,
+    name: &str,
+) -> Result<Cluster, Fault>
+    ensures catch_all { IfOk result HasCatchAll }
+    ensures few { IfOk result (λ cluster. vec_len cluster.levels ≤ most_levels) }
+{
+    let objects = read_objects(alloc, files, name)?;
+    match cluster_of(alloc, name, &objects) {
+        Ok(cluster) => Ok(cluster),
+        Err(fault) => Err(against_fault(alloc, name, fault)),
+    }
+}
+
+/// Reads the objects, and makes the same cluster of them twice.
+pub(crate) fn read_twice<F: Files>(
+    alloc: Global,
+    files: &mut F,
+    name: &str,
+) -> Result<(Cluster, Cluster), Fault>
+    ensures few { IfOk result (λ clusters. vec_len clusters.0.levels ≤ most_levels) }
+    ensures catch_all_too { IfOk result (λ clusters. HasCatchAll clusters.1) }
+    ensures few_too { IfOk result (λ clusters. vec_len clusters.1.levels ≤ most_levels) }
+{
+    let objects = read_objects(alloc, files, name)?;
+    let first = cluster_of(alloc, name, &objects)?;
+    let second = cluster_of(alloc, name, &objects)?;
+    Ok((first, second))
 }
 
 /// Prints the levels and schemas of the objects of this name, where the server has this many seats.

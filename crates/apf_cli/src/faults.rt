@@ -84,6 +84,10 @@ pub enum Fault {
     RequestAndLog,
     /// A level is named and no trace is asked for, or the other way round.
     LevelAndTrace,
+    /// The trace of a level is asked for, and a second cluster too.
+    TraceOfTwo,
+    /// A change of a second cluster is refused, with the whole line that says it.
+    Change(Vec<u8>),
     /// The level was not opened, for another cause than the dealer's. What the readers accept has none.
     Level(ReplayFault),
     /// In a simulation nothing is due any more, and a request still waits. It has never been seen.
@@ -135,6 +139,8 @@ impl Fault {
             | Fault::NoRequest
             | Fault::RequestAndLog
             | Fault::LevelAndTrace
+            | Fault::TraceOfTwo
+            | Fault::Change(_)
             | Fault::BadTime(_)
             | Fault::EndsBefore
             | Fault::BadInstant(_) => 2,
@@ -163,7 +169,7 @@ impl Fault {
     /// Writes the line of the fault.
     pub fn write<E: Write>(&self, err: &mut E) -> io::Result<()> {
         match self {
-            Fault::Told(line) => err.write_all(line.as_slice()),
+            Fault::Told(line) | Fault::Change(line) => err.write_all(line.as_slice()),
             _ => writeln!(err, "{self}"),
         }
     }
@@ -289,7 +295,7 @@ impl fmt::Display for Fault {
                 fault,
             ),
             // its line stands already
-            Fault::Told(_) => Ok(()),
+            Fault::Told(_) | Fault::Change(_) => Ok(()),
             Fault::LongSchema => f.write_str("apf: SCHEMA is longer than 4096 bytes"),
             Fault::BadPatience => f.write_str(
                 "apf: PATIENCE must be a number with m, s, ms or us behind it, as 1.5s, or a whole number of microseconds: at most 1000000000 microseconds",
@@ -313,6 +319,9 @@ impl fmt::Display for Fault {
             ),
             Fault::RequestAndLog => f.write_str("apf: --log goes with no other option"),
             Fault::LevelAndTrace => f.write_str("apf: --level and --trace go together"),
+            Fault::TraceOfTwo => f.write_str(
+                "apf: --trace is of one cluster: it goes with neither --set nor --against",
+            ),
             Fault::Level(fault) => write!(f, "apf: the level can't be opened: {fault}"),
             Fault::StillWaits => f.write_str("apf: a request still waits, and no seat is taken"),
             Fault::OtherBook => {

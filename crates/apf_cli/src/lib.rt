@@ -7,7 +7,8 @@
 //!   `telling` says it of other files.
 //! - `streaming`: simulates a trace that is read in pieces, and `pictures` draws that. `traces`: does the other commands on a trace.
 //!   `audits`: does that on an audit log.
-//! - `clusters`: prints a cluster's objects, and what they match. `cluster_runs`: simulates a whole cluster.
+//! - `clusters`: prints a cluster's objects, and what they match. `cluster_runs`: simulates a whole cluster, or two, and
+//!   `cluster_faults` says why it does not. `second`: makes the second one, and `changes` changes it.
 //! - `running`: runs requests by workers. `serving`: serves a level over standard input.
 //! - `measuring`: how large an output will be, before its first byte. `notes`: the lines beside an output. `progress`: the line of
 //!   how far a command is.
@@ -16,6 +17,8 @@
 #![tactic(auto)]
 
 mod audits;
+mod changes;
+mod cluster_faults;
 mod cluster_runs;
 mod clusters;
 mod explaining;
@@ -28,6 +31,7 @@ mod program;
 mod progress;
 mod reading;
 mod running;
+mod second;
 mod serving;
 mod streaming;
 mod telling;

@@ -17,6 +17,7 @@ use crate::notes::note_patience;
 use crate::pictures::{Drawn, print_picture};
 use crate::reading::{Explained, level_fault, read_level, script_in};
 use crate::running::print_run;
+use crate::second::Second;
 use crate::serving::{Served, print_served};
 use crate::streaming::{print_comparison, print_fates, print_simulation, print_timeline};
 use crate::traces::{Way, print_hands, print_requests};
@@ -261,7 +262,13 @@ fn print_action<F: Files, O: Write, E: Write + IsTerminal, R: Wait + Threads + S
             no_lending,
             level,
             trace,
+            changes,
+            against,
         } => {
+            let second = Second {
+                changes: changes.as_slice(),
+                against,
+            };
             let way = Simulated {
                 patience,
                 seats,
@@ -275,6 +282,7 @@ fn print_action<F: Files, O: Write, E: Write + IsTerminal, R: Wait + Threads + S
                 (objects, log),
                 way,
                 (level, trace),
+                second,
                 out,
                 rt,
                 err,

@@ -31,90 +31,110 @@ fn refused<'a>(rt: &impl Abort, alloc: Global, words: &'a [&'a str], kind: Error
     }
 }
 
+// The words give this action.
+fn reads<'a>(
+    rt: &impl Abort,
+    alloc: Global,
+    words: &'a [&'a str],
+    wanted: Action<'_>,
+) -> Result<(), Fail> {
+    let read = read_words(alloc, words)?;
+    assert_eq!(rt; read, wanted, "{words:?}");
+    Ok(())
+}
+
 #[test]
 fn reads_texts(rt: HostRuntime) -> Result<(), Fail> {
     let alloc = rt.alloc();
-    let hash = read_words(alloc, &["apf", "hash", "", "system:node"])?;
-    assert_eq!(rt;
-        hash,
+    reads(
+        &rt,
+        alloc,
+        &["apf", "hash", "", "system:node"],
         Action {
             command: "hash",
             arguments: Arguments::Flow {
                 schema: "",
-                distinguisher: "system:node"
-            }
-        }
-    );
-    let dashes = read_words(alloc, &["apf", "hash", "--", "-a", "--b"])?;
-    assert_eq!(rt;
-        dashes,
+                distinguisher: "system:node",
+            },
+        },
+    )?;
+    reads(
+        &rt,
+        alloc,
+        &["apf", "hash", "--", "-a", "--b"],
         Action {
             command: "hash",
             arguments: Arguments::Flow {
                 schema: "-a",
-                distinguisher: "--b"
-            }
-        }
-    );
-    let replay = read_words(alloc, &["apf", "replay", "c", "r", "s"])?;
-    assert_eq!(rt;
-        replay,
+                distinguisher: "--b",
+            },
+        },
+    )?;
+    reads(
+        &rt,
+        alloc,
+        &["apf", "replay", "c", "r", "s"],
         Action {
             command: "replay",
             arguments: Arguments::Script {
                 config: "c",
                 requests: "r",
-                script: "s"
-            }
-        }
-    );
-    let services = read_words(alloc, &["apf", "services", "c", "r", "s"])?;
-    assert_eq!(rt;
-        services,
+                script: "s",
+            },
+        },
+    )?;
+    reads(
+        &rt,
+        alloc,
+        &["apf", "services", "c", "r", "s"],
         Action {
             command: "services",
             arguments: Arguments::Script {
                 config: "c",
                 requests: "r",
-                script: "s"
-            }
-        }
-    );
-    let waits = read_words(alloc, &["apf", "waits", "c", "r", "s"])?;
-    assert_eq!(rt;
-        waits,
+                script: "s",
+            },
+        },
+    )?;
+    reads(
+        &rt,
+        alloc,
+        &["apf", "waits", "c", "r", "s"],
         Action {
             command: "waits",
             arguments: Arguments::Script {
                 config: "c",
                 requests: "r",
-                script: "s"
-            }
-        }
-    );
-    let explain = read_words(alloc, &["apf", "explain", "c", "r", "s"])?;
-    assert_eq!(rt;
-        explain,
+                script: "s",
+            },
+        },
+    )?;
+    reads(
+        &rt,
+        alloc,
+        &["apf", "explain", "c", "r", "s"],
         Action {
             command: "explain",
             arguments: Arguments::Script {
                 config: "c",
                 requests: "r",
-                script: "s"
-            }
-        }
-    );
-    let requests = read_words(alloc, &["apf", "requests", "t"])?;
-    assert_eq!(rt;
-        requests,
+                script: "s",
+            },
+        },
+    )?;
+    reads(
+        &rt,
+        alloc,
+        &["apf", "requests", "t"],
         Action {
             command: "requests",
-            arguments: Arguments::Trace { trace: "t" }
-        }
-    );
-    let trace = read_words(alloc, &["apf", "trace", "l", "s"])?;
-    assert_eq!(rt;
-        trace,
+            arguments: Arguments::Trace { trace: "t" },
+        },
+    )?;
+    reads(
+        &rt,
+        alloc,
+        &["apf", "trace", "l", "s"],
         Action {
             command: "trace",
             arguments: Arguments::AuditLog {
@@ -124,14 +144,15 @@ fn reads_texts(rt: HostRuntime) -> Result<(), Fail> {
                     by: None,
                     user: None,
                     since: None,
-                    until: None
-                }
-            }
-        }
-    );
-    let picture = read_words(alloc, &["apf", "picture", "c", "t", "7s"])?;
-    assert_eq!(rt;
-        picture,
+                    until: None,
+                },
+            },
+        },
+    )?;
+    reads(
+        &rt,
+        alloc,
+        &["apf", "picture", "c", "t", "7s"],
         Action {
             command: "picture",
             arguments: Arguments::Picture {
@@ -140,22 +161,23 @@ fn reads_texts(rt: HostRuntime) -> Result<(), Fail> {
                 patience: "7s",
                 charge: None,
                 from: None,
-                to: None
-            }
-        }
-    );
-    let hands = read_words(alloc, &["apf", "hands", "c", "t"])?;
-    assert_eq!(rt;
-        hands,
+                to: None,
+            },
+        },
+    )?;
+    reads(
+        &rt,
+        alloc,
+        &["apf", "hands", "c", "t"],
         Action {
             command: "hands",
             arguments: Arguments::Flows {
                 config: "c",
                 trace: "t",
-                flow: None
-            }
-        }
-    );
+                flow: None,
+            },
+        },
+    )?;
     Ok(())
 }
 
@@ -176,9 +198,10 @@ fn reads_options(rt: HostRuntime) -> Result<(), Fail> {
         "--since",
         "f",
     ];
-    let trace = read_words(alloc, &words)?;
-    assert_eq!(rt;
-        trace,
+    reads(
+        &rt,
+        alloc,
+        &words,
         Action {
             command: "trace",
             arguments: Arguments::AuditLog {
@@ -188,52 +211,60 @@ fn reads_options(rt: HostRuntime) -> Result<(), Fail> {
                     by: Some("b"),
                     user: Some("u*"),
                     since: Some("f"),
-                    until: Some("")
-                }
-            }
-        }
-    );
-    let hands = read_words(alloc, &["apf", "hands", "--flow", "f", "c", "t"])?;
-    assert_eq!(rt;
-        hands,
+                    until: Some(""),
+                },
+            },
+        },
+    )?;
+    reads(
+        &rt,
+        alloc,
+        &["apf", "hands", "--flow", "f", "c", "t"],
         Action {
             command: "hands",
             arguments: Arguments::Flows {
                 config: "c",
                 trace: "t",
-                flow: Some("f")
-            }
-        }
-    );
+                flow: Some("f"),
+            },
+        },
+    )?;
     Ok(())
 }
 
 #[test]
 fn reads_numbers_at_their_ends(rt: HostRuntime) -> Result<(), Fail> {
     let alloc = rt.alloc();
-    assert_eq!(rt;
-        read_words(alloc, &LEAST)?,
+    reads(
+        &rt,
+        alloc,
+        &LEAST,
         Action {
             command: "deal",
             arguments: Arguments::Deck {
                 deck: 0,
                 hand: 0,
-                hash: 0
-            }
-        }
-    );
-    let most = Action {
-        command: "deal",
-        arguments: Arguments::Deck {
-            deck: u32::MAX,
-            hand: u32::MAX,
-            hash: u64::MAX,
+                hash: 0,
+            },
         },
-    };
-    assert_eq!(rt; read_words(alloc, &MOST)?, most);
-    let one = read_words(alloc, &["apf", "run", "c", "r", "1"])?;
-    assert_eq!(rt;
-        one,
+    )?;
+    reads(
+        &rt,
+        alloc,
+        &MOST,
+        Action {
+            command: "deal",
+            arguments: Arguments::Deck {
+                deck: u32::MAX,
+                hand: u32::MAX,
+                hash: u64::MAX,
+            },
+        },
+    )?;
+    reads(
+        &rt,
+        alloc,
+        &["apf", "run", "c", "r", "1"],
         Action {
             command: "run",
             arguments: Arguments::Workers {
@@ -241,12 +272,13 @@ fn reads_numbers_at_their_ends(rt: HostRuntime) -> Result<(), Fail> {
                 requests: "r",
                 workers: 1,
                 rounds: 1,
-            }
-        }
-    );
-    let many = read_words(alloc, &["apf", "run", "c", "r", "64"])?;
-    assert_eq!(rt;
-        many,
+            },
+        },
+    )?;
+    reads(
+        &rt,
+        alloc,
+        &["apf", "run", "c", "r", "64"],
         Action {
             command: "run",
             arguments: Arguments::Workers {
@@ -254,9 +286,9 @@ fn reads_numbers_at_their_ends(rt: HostRuntime) -> Result<(), Fail> {
                 requests: "r",
                 workers: 64,
                 rounds: 1,
-            }
-        }
-    );
+            },
+        },
+    )?;
     Ok(())
 }
 
@@ -266,16 +298,20 @@ fn reads_rounds(rt: HostRuntime) -> Result<(), Fail> {
     let alloc = rt.alloc();
     for (text, rounds) in [("1", 1), ("1000000", 1_000_000), ("007", 7)] {
         let words = ["apf", "run", "c", "r", "8", "--rounds", text];
-        let run = Action {
-            command: "run",
-            arguments: Arguments::Workers {
-                config: "c",
-                requests: "r",
-                workers: 8,
-                rounds,
+        reads(
+            &rt,
+            alloc,
+            &words,
+            Action {
+                command: "run",
+                arguments: Arguments::Workers {
+                    config: "c",
+                    requests: "r",
+                    workers: 8,
+                    rounds,
+                },
             },
-        };
-        assert_eq!(rt; read_words(alloc, &words)?, run);
+        )?;
     }
     Ok(())
 }
@@ -286,27 +322,35 @@ fn reads_numbers_of_options(rt: HostRuntime) -> Result<(), Fail> {
     let alloc = rt.alloc();
     for (text, slots) in [("1", 1), ("10000", 10_000), ("007", 7)] {
         let words = ["apf", "serve", "c", "--slots", text];
-        let serve = Action {
+        reads(
+            &rt,
+            alloc,
+            &words,
+            Action {
+                command: "serve",
+                arguments: Arguments::Level {
+                    config: "c",
+                    slots,
+                    name: "level",
+                    charge: None,
+                },
+            },
+        )?;
+    }
+    reads(
+        &rt,
+        alloc,
+        &["apf", "serve", "c"],
+        Action {
             command: "serve",
             arguments: Arguments::Level {
                 config: "c",
-                slots,
+                slots: 10_000,
                 name: "level",
                 charge: None,
             },
-        };
-        assert_eq!(rt; read_words(alloc, &words)?, serve);
-    }
-    let serve = Action {
-        command: "serve",
-        arguments: Arguments::Level {
-            config: "c",
-            slots: 10_000,
-            name: "level",
-            charge: None,
         },
-    };
-    assert_eq!(rt; read_words(alloc, &["apf", "serve", "c"])?, serve);
+    )?;
     Ok(())
 }
 
@@ -314,8 +358,10 @@ fn reads_numbers_of_options(rt: HostRuntime) -> Result<(), Fail> {
 fn reads_the_words_of_simulations(rt: HostRuntime) -> Result<(), Fail> {
     let alloc = rt.alloc();
     for patience in ["0", "15s", "x", ""] {
-        assert_eq!(rt;
-            read_words(alloc, &["apf", "simulate", "c", "t", patience])?,
+        reads(
+            &rt,
+            alloc,
+            &["apf", "simulate", "c", "t", patience],
             Action {
                 command: "simulate",
                 arguments: Arguments::Bounded {
@@ -323,36 +369,42 @@ fn reads_the_words_of_simulations(rt: HostRuntime) -> Result<(), Fail> {
                     trace: "t",
                     patience,
                     charge: None,
-                    bound: false
-                }
-            }
-        );
-        assert_eq!(rt;
-            read_words(alloc, &["apf", "timeline", "c", "t", patience])?,
+                    bound: false,
+                },
+            },
+        )?;
+        reads(
+            &rt,
+            alloc,
+            &["apf", "timeline", "c", "t", patience],
             Action {
                 command: "timeline",
                 arguments: Arguments::Simulation {
                     config: "c",
                     trace: "t",
                     patience,
-                    charge: None
-                }
-            }
-        );
-        assert_eq!(rt;
-            read_words(alloc, &["apf", "fates", "c", "t", patience])?,
+                    charge: None,
+                },
+            },
+        )?;
+        reads(
+            &rt,
+            alloc,
+            &["apf", "fates", "c", "t", patience],
             Action {
                 command: "fates",
                 arguments: Arguments::Simulation {
                     config: "c",
                     trace: "t",
                     patience,
-                    charge: None
-                }
-            }
-        );
-        assert_eq!(rt;
-            read_words(alloc, &["apf", "compare", "c", "o", "t", patience])?,
+                    charge: None,
+                },
+            },
+        )?;
+        reads(
+            &rt,
+            alloc,
+            &["apf", "compare", "c", "o", "t", patience],
             Action {
                 command: "compare",
                 arguments: Arguments::Comparison {
@@ -360,13 +412,15 @@ fn reads_the_words_of_simulations(rt: HostRuntime) -> Result<(), Fail> {
                     other: "o",
                     trace: "t",
                     patience,
-                    charge: None
-                }
-            }
-        );
+                    charge: None,
+                },
+            },
+        )?;
     }
-    assert_eq!(rt;
-        read_words(alloc, &["apf", "simulate", "c", "t", "0", "--charge", "x"])?,
+    reads(
+        &rt,
+        alloc,
+        &["apf", "simulate", "c", "t", "0", "--charge", "x"],
         Action {
             command: "simulate",
             arguments: Arguments::Bounded {
@@ -374,10 +428,10 @@ fn reads_the_words_of_simulations(rt: HostRuntime) -> Result<(), Fail> {
                 trace: "t",
                 patience: "0",
                 charge: Some("x"),
-                bound: false
-            }
-        }
-    );
+                bound: false,
+            },
+        },
+    )?;
     for (words, from, to) in [
         (&["apf", "picture", "c", "t", "0"] as &[&str], None, None),
         (
@@ -386,8 +440,10 @@ fn reads_the_words_of_simulations(rt: HostRuntime) -> Result<(), Fail> {
             Some("x"),
         ),
     ] {
-        assert_eq!(rt;
-            read_words(alloc, words)?,
+        reads(
+            &rt,
+            alloc,
+            words,
             Action {
                 command: "picture",
                 arguments: Arguments::Picture {
@@ -396,13 +452,15 @@ fn reads_the_words_of_simulations(rt: HostRuntime) -> Result<(), Fail> {
                     patience: "0",
                     charge: None,
                     from,
-                    to
-                }
-            }
-        );
+                    to,
+                },
+            },
+        )?;
     }
-    assert_eq!(rt;
-        read_words(alloc, &["apf", "simulate", "--bound", "c", "t", "0"])?,
+    reads(
+        &rt,
+        alloc,
+        &["apf", "simulate", "--bound", "c", "t", "0"],
         Action {
             command: "simulate",
             arguments: Arguments::Bounded {
@@ -410,15 +468,14 @@ fn reads_the_words_of_simulations(rt: HostRuntime) -> Result<(), Fail> {
                 trace: "t",
                 patience: "0",
                 charge: None,
-                bound: true
-            }
-        }
-    );
-    assert_eq!(rt;
-        read_words(
-            alloc,
-            &["apf", "compare", "--charge", "seats", "c", "o", "t", "0"],
-        )?,
+                bound: true,
+            },
+        },
+    )?;
+    reads(
+        &rt,
+        alloc,
+        &["apf", "compare", "--charge", "seats", "c", "o", "t", "0"],
         Action {
             command: "compare",
             arguments: Arguments::Comparison {
@@ -426,10 +483,10 @@ fn reads_the_words_of_simulations(rt: HostRuntime) -> Result<(), Fail> {
                 other: "o",
                 trace: "t",
                 patience: "0",
-                charge: Some("seats")
-            }
-        }
-    );
+                charge: Some("seats"),
+            },
+        },
+    )?;
     Ok(())
 }
 
@@ -522,15 +579,69 @@ fn reads_the_name_and_the_charge_of_a_level(rt: HostRuntime) -> Result<(), Fail>
         "--charge=seats",
         "c",
     ];
-    let serve = Action {
-        command: "serve",
-        arguments: Arguments::Level {
-            config: "c",
-            slots: 3,
-            name: "a.b-9",
-            charge: Some("seats"),
+    reads(
+        &rt,
+        rt.alloc(),
+        &words,
+        Action {
+            command: "serve",
+            arguments: Arguments::Level {
+                config: "c",
+                slots: 3,
+                name: "a.b-9",
+                charge: Some("seats"),
+            },
         },
-    };
-    assert_eq!(rt; read_words(rt.alloc(), &words)?, serve);
+    )?;
+    Ok(())
+}
+
+// The changes of a second cluster stand in the order of the words, wherever these stand; without any there are none.
+#[test]
+fn reads_changes_in_their_order(rt: HostRuntime) -> Result<(), Fail> {
+    let alloc = rt.alloc();
+    let set = [
+        "apf",
+        "cluster",
+        "--set",
+        "b.shares=1",
+        "o",
+        "l",
+        "--set=a.shares=2",
+        "15s",
+        "--against",
+        "p",
+        "--set",
+        "b.shares=1",
+    ];
+    let without = ["apf", "cluster", "o", "l", "15s"];
+    let wanted = ["b.shares=1", "a.shares=2", "b.shares=1"];
+    let nothing: [&str; 0] = [];
+    for (words, wanted, other) in [
+        (set.as_slice(), wanted.as_slice(), Some("p")),
+        (without.as_slice(), nothing.as_slice(), None),
+    ] {
+        reads(
+            &rt,
+            alloc,
+            words,
+            Action {
+                command: "cluster",
+                arguments: Arguments::Cluster {
+                    objects: "o",
+                    log: "l",
+                    patience: "15s",
+                    seats: 600,
+                    flows: 12,
+                    json: false,
+                    no_lending: false,
+                    level: None,
+                    trace: false,
+                    changes: wanted.to_vec(alloc)?,
+                    against: other,
+                },
+            },
+        )?;
+    }
     Ok(())
 }

@@ -1,3 +1,4 @@
 pub mod LogViews
 pub mod LogLines
 pub mod Log
+pub mod Unsaid

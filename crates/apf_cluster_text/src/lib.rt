@@ -6,7 +6,7 @@
 //! - `listing`: the levels and schemas.
 //! - `matching`: the schema of a request.
 //! - `log_lines`: the lines of an audit log, which is read in pieces.
-//! - `events`: the requests of an audit log.
+//! - `events`: the requests of an audit log. `unsaid`: what such a log does not say of them.
 #![tactic(auto)]
 
 mod events;
@@ -16,9 +16,11 @@ mod listing;
 mod log_lines;
 mod matching;
 mod path;
+mod unsaid;
 
 pub use events::{LogFault, write_log};
 pub use faults::write_object_fault;
 pub use listing::write_cluster;
 pub use log_lines::{Found, LogLines};
 pub use matching::write_match;
+pub use unsaid::write_unsaid;

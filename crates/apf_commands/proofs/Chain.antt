@@ -8,7 +8,7 @@ use Rattle.apf_commands.specs.declared.entries.Kind.{Kind}
 use Rattle.apf_commands.specs.declared.entries.Kind.TheVariants.{Flow, Deck, Script, Workers, Level, Simulation, Bounded, Comparison, Trace, Picture, Flows, AuditLog, Objects, Match, Cluster}
 use Rattle.clap.specs.Simple.{App, app_of, app_of_fields, new_app, on_top, with_rule}
 use Rattle.clap.specs.Walk.{Rule, Text, rule_of}
-use Rattle.clap.specs.declared.builder.action.ArgAction.TheVariants.{SetTrue}
+use Rattle.clap.specs.declared.builder.action.ArgAction.TheVariants.{Append, SetTrue}
 use Rattle.clap.specs.declared.builder.arg.Arg.{Arg}
 use Rattle.clap.specs.declared.builder.command.Command.{Command}
 use Rattle.clap.specs.declared.builder.command.Command.TheOpen.{Command-F}
@@ -73,6 +73,14 @@ option_made new long named helped {name = name} rule_is local longs names helps 
       ∙ (ap rule_of names
       ∙ (ap (λ (a : Arg). record (rule_of a) { value_names = 1 }) longs ∙ ap (λ (r : Rule). record r { long = Some name.now; value_names = 1 }) rule_is)),
   ap (λ a. a.global) helps ∙ (ap (λ a. a.global) names ∙ (ap (λ a. a.global) longs ∙ local)),
+)
+
+-- an argument that may be given again
+pub repeated_made : (old new : Arg) {rule : Rule} → rule_of old ≡ rule → old.global ≡ false → new ≡ record old { action = Some Append }
+    → (rule_of new ≡ record rule { action = Some Append }) × (new.global ≡ false)
+repeated_made old new rule_is local repeats = (
+  ap rule_of repeats ∙ ap (λ (r : Rule). record r { action = Some Append }) rule_is,
+  ap (λ a. a.global) repeats ∙ local,
 )
 
 -- an option with no value, and its line of help

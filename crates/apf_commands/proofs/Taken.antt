@@ -11,7 +11,7 @@ use Rattle.clap.specs.Lexer.{long_of, short_of}
 use Rattle.clap.specs.Walk.{Held, Names, Outcome, Row, Rule, Step, Text, Waiting, Walk, action_of, after_flag, after_step, arg_by_id, arg_by_index, arg_by_long, arg_by_short, at_row, attached_value, bundle, bundle_met, bundle_step, done, has_long, has_short, idle, is_empty, is_pending, long_or_other, flag_met, long_met, more_values, most_values, next, option, option_met, option_word, short_met, plain, plain_word, positional, reacted, reading_by, refused, settled, settled_rows, short_or_plain, subcommand, subcommand_met, subcommand_or_other, takes_several, takes_values, to_positional, trailing, used, used_by_id, value, values_or_missing, waits, walked, walked_from, with_values, without, word_met}
 use Rattle.clap.specs.Simple.{Shape}
 use Rattle.clap.specs.Kinds.{Kinds, or_else, range_kinds, value_kinds}
-use Rattle.clap.specs.Faults.{bundle_fault, bundle_step_fault, flag_word_fault, flags_fault, long_fault, other_fault, positional_fault, option_fault, react_fault, set_fault, stray_fault, settle_fault, values_fault, short_fault, step_fault, turn_fault, use_fault, walk_fault, word_fault, action_fault}
+use Rattle.clap.specs.Faults.{bundle_fault, bundle_step_fault, flag_word_fault, flags_fault, long_fault, other_fault, positional_fault, option_fault, react_fault, repeat_fault, set_fault, stray_fault, settle_fault, values_fault, short_fault, step_fault, turn_fault, use_fault, walk_fault, word_fault, action_fault}
 use Rattle.clap.specs.declared.builder.action.ArgAction.{ArgAction}
 use Rattle.clap.specs.declared.builder.action.ArgAction.TheVariants.{Set, Append, SetTrue, SetFalse, Count, Help, HelpShort, HelpLong, Version}
 use Rattle.clap.specs.declared.parser.matches.ValueSource.TheVariants.{CommandLine}
@@ -65,9 +65,11 @@ some_kind e = cc
 
 -- ---- arguments
 
-abbrev is_set : ArgAction → Bool
-is_set Set = true
-is_set _ = false
+-- a use puts one value
+abbrev is_put : ArgAction → Bool
+is_put Set = true
+is_put Append = true
+is_put _ = false
 
 abbrev is_set_true : ArgAction → Bool
 is_set_true SetTrue = true
@@ -78,16 +80,16 @@ is_request Help = true
 is_request Version = true
 is_request _ = false
 
-set_only : (x : ArgAction) → is_set x ≡ true → x ≡ Set
-set_only Set e = refl
-set_only Append e = cc
-set_only SetTrue e = cc
-set_only SetFalse e = cc
-set_only Count e = cc
-set_only Help e = cc
-set_only HelpShort e = cc
-set_only HelpLong e = cc
-set_only Version e = cc
+put_only : (x : ArgAction) → is_put x ≡ true → (x ≡ Set) ⊎ (x ≡ Append)
+put_only Set e = inl refl
+put_only Append e = inr refl
+put_only SetTrue e = cc
+put_only SetFalse e = cc
+put_only Count e = cc
+put_only Help e = cc
+put_only HelpShort e = cc
+put_only HelpLong e = cc
+put_only Version e = cc
 
 set_true_only : (x : ArgAction) → is_set_true x ≡ true → x ≡ SetTrue
 set_true_only SetTrue e = refl
@@ -112,9 +114,9 @@ request_fails Count again a values rows e f = cc
 request_fails HelpShort again a values rows e f = cc
 request_fails HelpLong again a values rows e f = cc
 
--- a positional of one value
+-- an argument of which a use has one value
 abbrev is_single : Rule → Bool
-is_single a = is_set (action_of a) && ((unwrap_or_range a.range).start_inclusive == 1 && most_values a == 1)
+is_single a = is_put (action_of a) && ((unwrap_or_range a.range).start_inclusive == 1 && most_values a == 1)
 
 -- what is given or not, and has a value that stands for its use
 abbrev is_switch : Rule → Bool
@@ -240,19 +242,26 @@ module _ (c : List Rule) (plain_rules : list_all is_plain_rule c ≡ true) (own_
       request_fails (action_of a) again a (values_or_missing a values) rows request
       (no_fault (range_kinds (unwrap_or_range a.range).start_inclusive (most_values a) (length values)) _ e).1
 
+  -- what is put are values that the argument takes
+  put_passes : (again : Bool) (a : Rule) (values : List Text) (rows : List Row) → is_put (action_of a) ≡ true → action_fault (action_of a) again a values rows ≡ []
+      → values_fault a values ≡ []
+  put_passes again a values rows put e =
+      elim (put_only (action_of a) put) [
+        | inl set ↦ (let fault : set_fault again a values rows ≡ [] = rw set at e in (no_fault (repeat_fault again a.id rows) (values_fault a values) fault).1)
+        | inr append ↦ rw append at e
+      ]
+
   single_value : (again : Bool) (a : Rule) (values : List Text) (rows : List Row) → is_single a ≡ true → use_fault again a values rows ≡ []
       → (t : Text) × (values ≡ t ∷ []) × (value_kinds a.ignore_case (parser_of_value a.parser) t ≡ [])
   single_value again a values rows single e =
       let tests = both _ _ single in
       let ends = both _ _ tests.1 in
-      let action : action_of a ≡ Set = set_only _ tests.0 in
       let least : (unwrap_or_range a.range).start_inclusive ≡ 1 = eqb-true _ _ ends.0 in
       let most : most_values a ≡ 1 = eqb-true _ _ ends.1 in
       let parts = no_fault (range_kinds (unwrap_or_range a.range).start_inclusive (most_values a) (length values)) _ e in
       let range : range_kinds 1 1 (length values) ≡ [] = ap₂ (λ i j. range_kinds i j (length values)) (sym least) (sym most) ∙ parts.0 in
       let one = one_value values (one_wanted (length values) range) in
-      let set : set_fault again a (values_or_missing a values) rows ≡ [] = rw action at parts.1 in
-      let passed : values_fault a (values_or_missing a values) ≡ [] = (no_fault _ _ set).1 in
+      let passed = put_passes again a (values_or_missing a values) rows tests.0 parts.1 in
       let first : values_fault a (one.0 ∷ []) ≡ [] = rw one.1 at passed in
       (one.0, one.1, (no_fault _ _ first).0)
 
@@ -281,9 +290,11 @@ module _ (c : List Rule) (plain_rules : list_all is_plain_rule c ≡ true) (own_
 
       by_value : is_single a ≡ true → Each (IsTaken c) (used a values rows)
       by_value single =
-          let action : action_of a ≡ Set = set_only _ (both _ _ single).0 in
           let one = single_value again a values rows single e in
-          rw (action, one.1) (with_taken c a one.0 [] rows by_own_id one.2 h)
+          elim (put_only (action_of a) (both _ _ single).0) [
+            | inl set ↦ rw (set, one.1) (with_taken c a one.0 [] rows by_own_id one.2 h)
+            | inr append ↦ rw (append, one.1) (put_taken c a CommandLine one.0 [] rows by_own_id one.2 h)
+          ]
 
       by_switch : is_switch a ≡ true → Each (IsTaken c) (used a values rows)
       by_switch switch =

@@ -4,7 +4,7 @@ use Rattle.clap.specs.Words.{App, Rule, Shape, Text, app_of, new_app, new_rule}
 use Rattle.clap.specs.Simple.{with_rule, with_subcommand}
 use Rattle.clap.specs.declared.builder.command.Command.{Command}
 use Rattle.clap.specs.declared.builder.command.Command.TheViews.{out-Command}
-use Rattle.clap.specs.declared.builder.action.ArgAction.TheVariants.{SetTrue}
+use Rattle.clap.specs.declared.builder.action.ArgAction.TheVariants.{Append, SetTrue}
 use Rattle.clap.specs.declared.builder.value_parser.ValueParser.{ValueParser}
 use Rattle.clap.specs.declared.builder.value_parser.ValueParser.TheVariants.{Signed, Unsigned}
 use Rattle.apf_commands.specs.declared.entries.Entry.{Entry}
@@ -102,6 +102,10 @@ option_rule name = record (new_rule name) { long = Some name; value_names = 1 }
 abbrev pub number_option_rule : Text → ValueParser → Rule
 number_option_rule name parser = record (option_rule name) { parser = Some parser }
 
+-- an option with a text, which may be left out, and given as often as wanted
+abbrev pub repeated_rule : Text → Rule
+repeated_rule name = record (option_rule name) { action = Some Append }
+
 -- an option with no value, which may be left out
 abbrev pub flag_rule : Text → Rule
 flag_rule name = record (new_rule name) { long = Some name; action = Some SetTrue }
@@ -139,6 +143,13 @@ abbrev pub cluster_log_rules : List Rule
 cluster_log_rules =
     text_rule (codes "OBJECTS") ∷ text_rule (codes "AUDITLOG") ∷ text_rule (codes "PATIENCE") ∷ number_option_rule (codes "seats") seat_count ∷ []
 
+-- the same, and what is simulated and printed
+abbrev pub cluster_print_rules : List Rule
+cluster_print_rules =
+    text_rule (codes "OBJECTS") ∷ text_rule (codes "AUDITLOG") ∷ text_rule (codes "PATIENCE") ∷ number_option_rule (codes "seats") seat_count
+    ∷ number_option_rule (codes "flows") flow_count ∷ flag_rule (codes "json") ∷ flag_rule (codes "no-lending") ∷ option_rule (codes "level")
+    ∷ flag_rule (codes "trace") ∷ []
+
 -- the arguments of a kind, in their order
 abbrev pub rules_of : Kind → List Rule
 rules_of Flow = text_rule (codes "SCHEMA") ∷ text_rule (codes "DISTINGUISHER") ∷ []
@@ -171,7 +182,7 @@ rules_of Match =
 rules_of Cluster =
     text_rule (codes "OBJECTS") ∷ text_rule (codes "AUDITLOG") ∷ text_rule (codes "PATIENCE") ∷ number_option_rule (codes "seats") seat_count
     ∷ number_option_rule (codes "flows") flow_count ∷ flag_rule (codes "json") ∷ flag_rule (codes "no-lending") ∷ option_rule (codes "level")
-    ∷ flag_rule (codes "trace") ∷ []
+    ∷ flag_rule (codes "trace") ∷ repeated_rule (codes "set") ∷ option_rule (codes "against") ∷ []
 
 -- a command that takes these arguments
 abbrev pub command_shape : Text → List Rule → Shape

@@ -1,8 +1,8 @@
 -- What a command line asks for, by what `clap` reads of its words.
-use Rattle.std.specs.Prelude.{◌≡◌, ◌<◌, ◌≤◌, ◌⊎◌, ◌&&◌, ℕ, Bool, List, [], ◌∷◌, Option, Some, None, Ok, true, false, not, if◌then◌else◌, codes, option_map, unwrap_or}
+use Rattle.std.specs.Prelude.{◌≡◌, ◌<◌, ◌≤◌, ◌⊎◌, ◌&&◌, ℕ, Bool, List, [], ◌∷◌, map, Option, Some, None, Ok, true, false, not, if◌then◌else◌, codes, option_map, unwrap_or}
 use Rattle.std.specs.Borrow.{Bor}
 use Rattle.std.specs.Str.Parse.{ParsesUnsigned}
-use Rattle.clap.specs.Words.{Kinds, Row, Text, fault_of, first_of, one_of, subcommand_of}
+use Rattle.clap.specs.Words.{Kinds, Row, Text, all_of, fault_of, first_of, one_of, subcommand_of}
 use Rattle.clap.specs.Kinds.{or_else}
 use Rattle.clap.specs.Values.{bool_text}
 use Rattle.clap.specs.declared.error.kind.ErrorKind.TheVariants.{ValueValidation}
@@ -27,6 +27,10 @@ IsOption rows id given = first_of id rows ≡ option_map (λ t. t.now) given
 -- the option's text, or this one where it is not given
 abbrev pub IsTextOr : Text → List Row → Text → Text → Type 0
 IsTextOr otherwise rows id t = unwrap_or (first_of id rows) otherwise ≡ t
+
+-- the texts of an option that may be given as often as wanted, in the order of the words; none where it is not given
+abbrev pub AreTexts : List Row → Text → List (Bor Text) → Type 0
+AreTexts rows id given = unwrap_or (all_of id rows) [] ≡ map (λ t. t.now) given
 
 -- whether the option with no value is given: its text is `true` then, and `false` where it is not
 abbrev pub IsFlag : List Row → Text → Bool → Type 0
@@ -128,7 +132,7 @@ AreArguments rows (Objects objects seats) = IsText rows (codes "OBJECTS") object
     × IsSeatCount rows seats
 AreArguments rows (Match objects asked) = IsText rows (codes "OBJECTS") objects.now
     × AreAsked rows asked
-AreArguments rows (Cluster objects log patience seats flows json no_lending level trace) = IsText rows (codes "OBJECTS") objects.now
+AreArguments rows (Cluster objects log patience seats flows json no_lending level trace changes against) = IsText rows (codes "OBJECTS") objects.now
     × IsText rows (codes "AUDITLOG") log.now
     × IsText rows (codes "PATIENCE") patience.now
     × IsSeatCount rows seats
@@ -137,6 +141,8 @@ AreArguments rows (Cluster objects log patience seats flows json no_lending leve
     × IsFlag rows (codes "no-lending") no_lending
     × IsOption rows (codes "level") level
     × IsFlag rows (codes "trace") trace
+    × AreTexts rows (codes "set") changes.items
+    × IsOption rows (codes "against") against
 
 -- the kind of arguments
 abbrev pub kind_of : Arguments → Kind
@@ -154,7 +160,7 @@ kind_of (Flows a b c) = of_kind.Flows
 kind_of (AuditLog a b c) = of_kind.AuditLog
 kind_of (Objects a b) = of_kind.Objects
 kind_of (Match a b) = of_kind.Match
-kind_of (Cluster a b c d e f g h i) = of_kind.Cluster
+kind_of (Cluster a b c d e f g h i j k) = of_kind.Cluster
 
 -- a command of this name with these rows asks for the action: it is named so, and its arguments are of the kind that the command has
 pub record AsksFor (name : Text) (rows : List Row) (action : Action) : Type 0 where
@@ -180,7 +186,7 @@ HasSlots _ = Unit {0}
 -- a server whose limits are told has 1 to 1,000,000 seats
 abbrev pub HasSeats : Arguments → Type 0
 HasSeats (Objects objects seats) = (1 ≤ seats) × (seats ≤ 1000000)
-HasSeats (Cluster objects log patience seats flows json no_lending level trace) = (1 ≤ seats) × (seats ≤ 1000000)
+HasSeats (Cluster objects log patience seats flows json no_lending level trace changes against) = (1 ≤ seats) × (seats ≤ 1000000)
 HasSeats _ = Unit {0}
 
 -- a level that stays open has a name that a level may have

@@ -2,7 +2,7 @@
 ghost use Rattle.std.specs.Prelude.{◌≡◌, IfOk, false, map};
 ghost use Rattle.clap.specs.Words.{app_of, rule_of, shape_of};
 ghost use Rattle.clap.specs.declared.builder.command.Command.TheViews.{out-Command};
-ghost use Rattle.apf_commands.specs.Commands.{AddsRules, apf_app, cluster_log_rules, listed, with_commands, rules_of, shape_for, flag_rule, text_rule, number_rule, option_rule, number_option_rule};
+ghost use Rattle.apf_commands.specs.Commands.{AddsRules, apf_app, cluster_log_rules, cluster_print_rules, listed, with_commands, rules_of, shape_for, flag_rule, text_rule, number_rule, option_rule, number_option_rule, repeated_rule};
 ghost use Rattle.apf_commands.specs.declared.entries.Kind.TheVariants as of_kind;
 
 use crate::entries::{Entry, Kind};
@@ -45,6 +45,12 @@ const FROM: &str = "Draws the run from T on, as 90s; from its beginning if left 
 
 /// What help says of where a picture ends.
 const TO: &str = "Draws the run up to T; up to its end if left out";
+
+/// What help says of a change.
+const SET: &str = "Runs a second cluster with this change, see below; may be given again";
+
+/// What help says of the objects of a second cluster.
+const AGAINST: &str = "Runs a second cluster, made of these objects";
 
 /// What help says below the commands: the program's statuses, and how to begin.
 const HELP: &str = "\
@@ -102,6 +108,14 @@ fn number_option<'a>(
     ensures local { result.global ≡ false }
 {
     option(alloc, name, value, help).value_parser(parser)
+}
+
+// An option with a text, which may be left out, and given as often as wanted. Help calls its value `value`.
+fn repeated<'a>(alloc: Global, name: &'a str, value: &'a str, help: &'a str) -> Arg<'a>
+    ensures rule { rule_of result ≡ repeated_rule name.entry.now }
+    ensures local { result.global ≡ false }
+{
+    option(alloc, name, value, help).action(ArgAction::Append)
 }
 
 // An option with no value, which may be left out.
@@ -368,8 +382,8 @@ fn with_cluster_log<'a>(alloc: Global, command: Command<'a>) -> Result<Command<'
 }
 
 // The same, and what is simulated and printed.
-fn with_cluster<'a>(alloc: Global, command: Command<'a>) -> Result<Command<'a>, AllocError>
-    ensures { IfOk result (AddsRules (rules_of of_kind.Cluster) command.entry) }
+fn with_cluster_print<'a>(alloc: Global, command: Command<'a>) -> Result<Command<'a>, AllocError>
+    ensures { IfOk result (AddsRules cluster_print_rules command.entry) }
 {
     let flows = value_parser!(u32).range(0..=1_000_000);
     with_cluster_log(alloc, command)?
@@ -393,6 +407,15 @@ fn with_cluster<'a>(alloc: Global, command: Command<'a>) -> Result<Command<'a>, 
             "trace",
             "Prints the requests of a level as a trace, and simulates nothing",
         ))
+}
+
+// The same, and a second cluster.
+fn with_cluster<'a>(alloc: Global, command: Command<'a>) -> Result<Command<'a>, AllocError>
+    ensures { IfOk result (AddsRules (rules_of of_kind.Cluster) command.entry) }
+{
+    with_cluster_print(alloc, command)?
+        .arg(repeated(alloc, "set", "KEY=VALUE", SET))?
+        .arg(option(alloc, "against", "OBJECTS", AGAINST))
 }
 
 // A command with the arguments of this kind behind its own.

@@ -16,8 +16,8 @@ no clock runs, a dispatch is charged a number that is known before, and no level
 
 CONFIG is that of apf replay; apf replay --help says what it holds.
 TRACE is JSON Lines: one JSON object a line, each line ended by LF, of at most 65536 bytes, in any
-order of time. Of more than 131072 lines, each may come up to 131072 places late. timeline, picture,
-requests and hands take at most 10000 lines, but picture --from T --to T any number. At most 10000
+order of time. Of more than 131072 lines, each may come up to 131072 places late. timeline, picture
+and requests take at most 10000 lines, but picture --from T --to T any number. At most 10000
 requests may be there at once.
 Requests are numbered from 0. Times are whole microseconds from the trace's beginning:
   arrivesAt         when the request arrives, 0 to 1000000000000; must be there
@@ -41,7 +41,9 @@ book of apf replay:
   end T seat-time U of V waited W patience P
   flow H       the flow's hash, in hexadecimal digits
   seat-time T  the sum of width times runsFor of the flow's executed requests; U is that of all
-  wait         microseconds that its executed requests waited: median, 99th percentile, longest
+  wait         microseconds that its executed requests waited: median, 99th percentile, longest; of
+               more than 10000 waits the first two are shortened, with a ~ before them
+  others       stands in place of flow H on the one line of all flows behind the first 100000
   of SCHEMA DISTINGUISHER  as JSON texts; nothing where the flow's first request gives the hash
   end T        when the last thing was done, in microseconds
   of V         the level's limit times the end
@@ -107,10 +109,11 @@ Status: 0 done, 1 a file's fault or output that can't be written, 2 a command li
 Simulates the trace on the level of CONFIG, and on that of OTHER. Prints a line of names, a line
 for each flow, and a line of the whole. First come the flows whose longest wait changes most. Each
 number but the first stands twice: on the one level, and on the other.
-  flow        the flow's hash, in hexadecimal digits; whole for all requests
+  flow        the flow's hash, in hexadecimal digits; others for all flows behind the first 100000
+              that arrive; whole for all requests
   requests    how many it has
   median, p99, longest  of the waits of its executed requests, in microseconds; p99 is the 99th
-              percentile
+              percentile; of more than 10000 waits both are shortened, with a ~ before them
   rejected    requests that were rejected
   cancelled   requests that gave up
   schema, distinguisher  as JSON texts; nothing where the flow's first request gives the hash
@@ -369,11 +372,26 @@ Prints a line of names, and a line for each level, in the order of the objects:
   LOG-429S     how many the server of the log turned away, by the log itself
   USED         the seats that were in use until the last request of all was over, beside the nominal
                limit; - on a level that is exempt, or where no time went by
-  MEDIAN ..    the median, the 99th percentile and the longest of the waits of those executed, with
-               a ~ where a percentile is shortened
+  MEDIAN ..    the median, the 99th percentile and the longest of the waits of those executed; of
+               more than 10000 waits the first two are shortened, with a ~ before them
 Where flows waited or were turned away, a line of names, and a line for each of the first 12:
   LEVEL REQUESTS EXECUTED REJECTED TIMED-OUT MEDIAN P99 LONGEST SCHEMA DISTINGUISHER
-Those come first that waited longest, and of one wait those of which most requests were lost.
+Those come first that waited longest, and of one wait those of which most requests were lost. A flow
+of a level behind the first 100000 that arrive there has no line: it counts in that of its level.
+The last lines say what an audit log does not tell, and what was taken in its place.
+
+With --set or --against a second cluster runs beside the first one, with the same requests. It is
+made of the objects of --against, or of OBJECTS again, and then changed by each --set in turn:
+  LEVEL.shares=60, .lendable=50, .borrowing=20 or none, .queues=64, .hand=8, .length=50
+  LEVEL.seats=100             fixes the nominal limit of the level; the others keep theirs
+  LEVEL.response=Queue        or Reject
+  schema:NAME.precedence=500, .level=LEVEL, .by=user, namespace or none
+  schema:NAME.rate=2x         each request of the schema comes twice, at one time; 0: not at all
+  user:NAME.rate=2x           the same of a user
+  server.seats=800            in place of --seats
+In place of a number *2 is twice what stands there, and +20 is 20 more. A column is a>b where it is
+a on the first cluster and b on the second; - stands for what one of the two lacks. Those flows come
+first whose longest wait changes most. With --json each object has its \"cluster\", 1 or 2.
 
 With --json each line is a JSON object, with times in microseconds, and seatTime in place of USED:
   {\"level\": ..}   of a level          {\"flowOf\": ..}   of a flow of that level
@@ -382,7 +400,15 @@ With --level NAME --trace the requests of the level NAME are printed as a trace,
 and picture, and nothing is simulated. Their times are from the first request of the whole log.
 
 Example:
-  $ apf cluster examples/cluster/objects.json examples/audit/audit.log 15s | grep -v ' 0 0 0 0 '
+  $ apf cluster examples/cluster/objects.json examples/audit/audit.log 15s | grep -E 'level|node'
+  level nominal limits requests executed rejected timed-out log-429s used median p99 longest
+  node-high 98 98 1 1 0 0 0 0% 0us 0us 0us
+What if workload-high had one seat more, and kubernetes-admin asked three times as often?
+  $ apf cluster examples/cluster/objects.json examples/audit/audit.log 15s --seats 4 \\
+  >   --set workload-high.seats=+1 --set user:kubernetes-admin.rate=3x | grep '>'
+  global-default 1 1 2>4 2>4 0 0 0 21%>22% 0us 0us>36ms 0us>36ms
+  workload-high 1>2 1>2 3 3 0 0 0 42%>21% 0us 0us 0us
+  global-default 1>3 1>3 0 0 0us>18ms 0us>36ms 0us>36ms \"global-default\" \"kubernetes-admin\"
 
 Status: 0 done, 1 a file's fault or output that can't be written, 2 a command line's fault,
 3 no memory.",

@@ -3,7 +3,7 @@ ghost use Rattle.std.specs.Prelude.{◌≡◌, ◌⊎◌, ℕ, IfErr, IfNone, If
 ghost use Rattle.clap.specs.Words.{FailsBy, found_of, kind_of, rows_of};
 ghost use Rattle.clap.specs.declared.error.kind.ErrorKind.TheVariants.{OutOfMemory, ValueValidation};
 ghost use Rattle.clap.specs.Walk.{texts};
-ghost use Rattle.apf_commands.specs.Meaning.{kind_of as kind_of_arguments, AreArguments, AreAsked, AreChosen, HasBadName, HasLevelName, IsActionOf, IsFlag, IsInRange, IsNumber, IsNumberOr, IsOption, IsText, IsTextOr, words_fault};
+ghost use Rattle.apf_commands.specs.Meaning.{kind_of as kind_of_arguments, AreArguments, AreAsked, AreChosen, AreTexts, HasBadName, HasLevelName, IsActionOf, IsFlag, IsInRange, IsNumber, IsNumberOr, IsOption, IsText, IsTextOr, words_fault};
 ghost use Rattle.apf_commands.specs.Arguments.{HasArguments, HasFlag, HasText, HasNumber};
 ghost use Rattle.apf_commands.specs.declared.entries.Kind.TheVariants as of_kind;
 
@@ -12,10 +12,10 @@ use crate::entries::{Kind, kind_of_command};
 use crate::level_name::is_level_name;
 use clap::error::ErrorKind;
 use clap::{ArgMatches, Error};
-use std::alloc::Global;
+use std::alloc::{AllocError, Global};
 
 /// A command of the program, with its texts and numbers.
-#[derive(Clone, Copy, Debug, PartialEq, Eq)]
+#[derive(Debug, PartialEq, Eq, Drop)]
 pub struct Action<'a> {
     /// The command's name.
     pub command: &'a str,
@@ -23,7 +23,7 @@ pub struct Action<'a> {
 }
 
 /// The texts and numbers of a command, by their kind.
-#[derive(Clone, Copy, Debug, PartialEq, Eq)]
+#[derive(Debug, PartialEq, Eq, Drop)]
 pub enum Arguments<'a> {
     /// A flow.
     Flow {
@@ -118,8 +118,8 @@ pub enum Arguments<'a> {
         asked: Asked<'a>,
     },
     /// The names of a file of objects and of an audit log, the words of a patience, how many seats the server has, 1 to 1,000,000, how
-    /// many flows are told, 0 to 1,000,000, whether JSON is asked for, whether no seats are lent, the name of a level, and whether its
-    /// requests are asked for as a trace.
+    /// many flows are told, 0 to 1,000,000, whether JSON is asked for, whether no seats are lent, the name of a level, whether its
+    /// requests are asked for as a trace, and of a second cluster the changes, in their order, and the name of the file of its objects.
     Cluster {
         objects: &'a str,
         log: &'a str,
@@ -130,6 +130,8 @@ pub enum Arguments<'a> {
         no_lending: bool,
         level: Option<&'a str>,
         trace: bool,
+        changes: Vec<&'a str>,
+        against: Option<&'a str>,
     },
 }
 
@@ -174,6 +176,20 @@ fn option_of<'a>(matches: &ArgMatches<'a>, id: &str) -> Option<&'a str>
     ensures { IsOption (rows_of (found_of matches.now)) id.now result }
 {
     matches.get_str(id)
+}
+
+// The texts of an option that may be given as often as wanted, in their order.
+fn texts_of<'a>(
+    alloc: Global,
+    matches: &ArgMatches<'a>,
+    id: &str,
+) -> Result<Vec<&'a str>, AllocError>
+    ensures { IfOk result (λ texts. AreTexts (rows_of (found_of matches.now)) id.now texts.items) }
+{
+    match matches.get_strs(id) {
+        Some(texts) => texts.to_vec(alloc),
+        None => Ok(Vec::new(alloc)),
+    }
 }
 
 // Whether an option with no value is given.
@@ -437,12 +453,13 @@ fn match_of<'a>(matches: &ArgMatches<'a>) -> Arguments<'a>
     }
 }
 
-fn cluster_of<'a>(matches: &ArgMatches<'a>) -> Arguments<'a>
+fn cluster_of<'a>(alloc: Global, matches: &ArgMatches<'a>) -> Result<Arguments<'a>, AllocError>
     requires { HasArguments of_kind.Cluster (rows_of (found_of matches.now)) }
-    ensures kind { kind_of_arguments result ≡ of_kind.Cluster }
-    ensures read { AreArguments (rows_of (found_of matches.now)) result }
+    ensures kind { IfOk result (λ arguments. kind_of_arguments arguments ≡ of_kind.Cluster) }
+    ensures read { IfOk result (AreArguments (rows_of (found_of matches.now))) }
 {
-    Arguments::Cluster {
+    let changes = texts_of(alloc, matches, "set")?;
+    Ok(Arguments::Cluster {
         objects: text_of(matches, "OBJECTS"),
         log: text_of(matches, "AUDITLOG"),
         patience: text_of(matches, "PATIENCE"),
@@ -452,16 +469,22 @@ fn cluster_of<'a>(matches: &ArgMatches<'a>) -> Arguments<'a>
         no_lending: flag_of(matches, "no-lending"),
         level: option_of(matches, "level"),
         trace: flag_of(matches, "trace"),
-    }
+        changes,
+        against: option_of(matches, "against"),
+    })
 }
 
 // The arguments of this kind.
-fn arguments_of<'a>(kind: Kind, matches: &ArgMatches<'a>) -> Arguments<'a>
+fn arguments_of<'a>(
+    alloc: Global,
+    kind: Kind,
+    matches: &ArgMatches<'a>,
+) -> Result<Arguments<'a>, AllocError>
     requires { HasArguments kind (rows_of (found_of matches.now)) }
-    ensures kind { kind_of_arguments result ≡ kind }
-    ensures read { AreArguments (rows_of (found_of matches.now)) result }
+    ensures kind { IfOk result (λ arguments. kind_of_arguments arguments ≡ kind) }
+    ensures read { IfOk result (AreArguments (rows_of (found_of matches.now))) }
 {
-    match kind {
+    Ok(match kind {
         Kind::Flow => flow_of(matches),
         Kind::Deck => deck_of(matches),
         Kind::Script => script_of(matches),
@@ -476,8 +499,8 @@ fn arguments_of<'a>(kind: Kind, matches: &ArgMatches<'a>) -> Arguments<'a>
         Kind::AuditLog => audit_log_of(matches),
         Kind::Objects => objects_of(matches),
         Kind::Match => match_of(matches),
-        Kind::Cluster => cluster_of(matches),
-    }
+        Kind::Cluster => cluster_of(alloc, matches)?,
+    })
 }
 
 // The name of the level that the action is of, if no level may have it.
@@ -527,7 +550,7 @@ fn judged<'a>(alloc: Global, action: Action<'a>) -> Result<Action<'a>, Error>
 /// of which kind its arguments are. `DECK` and `HAND` are whole decimal numbers of 32 bits, `HASH` is one of 64 bits,
 /// `WORKERS` is 1 to 64, `--rounds` 1 to 1,000,000 and 1 if absent, `--slots` 1 to 10,000 and 10,000 if absent. `--name` is
 /// 1 to 253 bytes of `a-z`, `0-9`, `.` and `-`, and `level` if absent. The other arguments are texts, `PATIENCE`, `--charge`,
-/// `--from` and `--to` too.
+/// `--from` and `--to` too. `--set` may be given as often as wanted.
 ///
 /// # Errors
 ///
@@ -541,6 +564,6 @@ pub fn read_words<'a>(alloc: Global, words: &'a [&'a str]) -> Result<Action<'a>,
     let matches = apf_command(alloc)?.try_get_matches_from(words)?;
     let (command, inner) = matches.subcommand().unwrap();
     let kind = kind_of_command(command).unwrap();
-    let arguments = arguments_of(kind, inner);
+    let arguments = arguments_of(alloc, kind, inner)?;
     judged(alloc, Action { command, arguments })
 }

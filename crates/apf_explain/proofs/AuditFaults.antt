@@ -1,18 +1,20 @@
 -- What the fault of an audit log says of the line that it names.
 use Rattle.std.proofs.Common.{subst, ◌≡◌, ◌⊎◌, inl, inr, ℕ, suc, ◌+◌, ◌-◌, ◌<◌, List, [], ◌∷◌, length, Bool, true, false, cond, Option, Some, None, Result, Ok, Err, codes, refl, sym, ap, arith}
-use Rattle.std.specs.Prelude.{is_none, nat_le, option_and_then}
+use Rattle.std.specs.Prelude.{is_none, nat_le, option_and_then, option_map}
 use Rattle.serde_json.specs.Data.{Data}
 use Rattle.serde_json.specs.Find.{get, as_str}
 use Rattle.apf_files.specs.FirstFault.{◌>>=◌, or_fault}
 use Rattle.apf_files.specs.JsonFile.{text_at, value_of}
 use Rattle.apf_traces.specs.TraceFile.{Line}
-use Rattle.apf_audit.specs.AuditEvent.{event_by, event_of, flow_of, instant_at, is_taken, is_unnamed, name_by, name_found, namespace_by, namespace_of, ran_at, run_at, run_by, schema_of, short, taken_by, taken_of, text_within, user_of, wait_at, wait_by, was_turned_away, max_name}
+use Rattle.apf_audit.specs.AuditEvent.{BesideSaid, beside_of, event_by, event_of, flow_of, instant_at, is_taken, is_unnamed, name_by, name_found, namespace_by, namespace_of, place_among, ran_at, run_at, run_by, said_by, schema_of, short, taken_by, taken_of, text_within, user_of, wait_at, wait_by, was_turned_away, max_name}
 use Rattle.apf_audit.specs.AuditFaults.{line_of}
 use Rattle.apf_audit.specs.AuditLog.{is_unfinished, judged_by, judged_line, max_line}
-use Rattle.apf_audit.specs.Choice.{distinguisher_by, is_chosen}
+use Rattle.apf_audit.specs.Choice.{distinguisher_by, is_chosen, within}
 use Rattle.apf_audit.specs.Times.{instant_of, run_of}
 use Rattle.apf_objects.specs.declared.schema.Distinguisher.{Distinguisher}
 use Rattle.apf_objects.specs.declared.schema.Distinguisher.TheVariants.{User, Namespace, Nothing}
+use Rattle.apf_audit.specs.declared.choice.By.{By}
+use Rattle.apf_audit.specs.declared.choice.By.TheVariants.{User as ByUser, Namespace as ByNamespace, Schema as BySchema, Schemas as BySchemas}
 use Rattle.apf_audit.specs.declared.choice.Choice.{Choice}
 use Rattle.apf_audit.specs.declared.fault.AuditFault.{AuditFault}
 use Rattle.apf_audit.specs.declared.fault.AuditFault.TheVariants.{TooLong, NotUtf8Json, NotEvent, BadUser, BadNamespace, BadReceived, BadStage, BadWait, BadRun, BadArrival, NoMemory, TooLate}
@@ -81,6 +83,23 @@ flow_shown User user d h = absurd cc
 flow_shown Nothing user d h = absurd cc
 flow_shown Namespace user d h = namespace_shown (option_and_then (get (codes "namespace")) (get (codes "objectRef") d)) h
 
+none_mapped : {A B : Type 0} (f : A → B) (o : Option A) → option_map f o ≡ None → o ≡ None
+none_mapped f None h = refl
+none_mapped f (Some x) h = absurd cc
+
+beside_shown : (by : By) (user : List ℕ) (d : Data) → beside_of by user d ≡ None
+    → IsUnwantedThere (Name max_name) (option_and_then (get (codes "namespace")) (get (codes "objectRef") d))
+beside_shown ByUser user d h = absurd cc
+beside_shown ByNamespace user d h = absurd cc
+beside_shown (BySchema cluster) user d h = absurd cc
+beside_shown (BySchemas first second) user d h =
+    let schemas = second.now.schemas.items in
+    let place = place_among schemas user d in
+    let way = within schemas place in
+    flow_shown way user d
+    (none_mapped (λ (flow : List ℕ). record { user = user; schema = place; flow = flow }) (flow_of way user d)
+    (none_mapped (λ (said : BesideSaid). Some said) (said_by schemas user d) h))
+
 wait_shown : (o : Option Data) → wait_by o ≡ None → IsUnwantedThere Wait o
 wait_shown None h = absurd cc
 wait_shown (Some v) h = rw h refl
@@ -113,17 +132,17 @@ run_by_shown false n received d fault from h =
       },
     ))))
 
-ran_shown : (n received : ℕ) (schema : Option ℕ) (flow : List ℕ) (d : Data) (fault : AuditFault) → instant_at (codes "requestReceivedTimestamp") d ≡ Some received
-    → ran_at n received schema flow d ≡ Err fault → IsEventAt n d fault
+ran_shown : (n received : ℕ) (schema : Option ℕ) (flow : List ℕ) (beside : Option BesideSaid) (d : Data) (fault : AuditFault) → instant_at (codes "requestReceivedTimestamp") d ≡ Some received
+    → ran_at n received schema flow beside d ≡ Err fault → IsEventAt n d fault
 unfolding ran_at run_at
-ran_shown n received schema flow d fault from h =
+ran_shown n received schema flow beside d fault from h =
     stepped (run_by (was_turned_away d) n received d) _ fault h (λ e. run_by_shown (was_turned_away d) n received d fault from e) (λ _ h1. absurd cc)
 
-chosen_shown : (b : Bool) (n received : ℕ) (schema : Option ℕ) (flow : List ℕ) (d : Data) (fault : AuditFault) → instant_at (codes "requestReceivedTimestamp") d ≡ Some received
-    → cond b (ran_at n received schema flow d >>= (λ e. Ok (Some e))) (Ok None) ≡ Err fault → IsEventAt n d fault
-chosen_shown true n received schema flow d fault from h =
-    stepped (ran_at n received schema flow d) _ fault h (λ e. ran_shown n received schema flow d fault from e) (λ _ h1. absurd cc)
-chosen_shown false n received schema flow d fault from h = absurd cc
+chosen_shown : (b : Bool) (n received : ℕ) (schema : Option ℕ) (flow : List ℕ) (beside : Option BesideSaid) (d : Data) (fault : AuditFault) → instant_at (codes "requestReceivedTimestamp") d ≡ Some received
+    → cond b (ran_at n received schema flow beside d >>= (λ e. Ok (Some e))) (Ok None) ≡ Err fault → IsEventAt n d fault
+chosen_shown true n received schema flow beside d fault from h =
+    stepped (ran_at n received schema flow beside d) _ fault h (λ e. ran_shown n received schema flow beside d fault from e) (λ _ h1. absurd cc)
+chosen_shown false n received schema flow beside d fault from h = absurd cc
 
 taken_shown : (choice : Choice) (n : ℕ) (d : Data) (fault : AuditFault) → is_unnamed d ≡ false → taken_of choice n d ≡ Err fault → IsEventAt n d fault
 unfolding taken_of
@@ -134,10 +153,12 @@ taken_shown choice n d fault there h =
     let by = distinguisher_by choice.by schema in
     stepped (or_fault (BadNamespace n) (flow_of by user d)) _ fault h1
     (λ e. at_step n d (flow_of by user d) (BadNamespace n) fault e (λ no. (refl, flow_shown by user d no))) (λ flow h2.
-    stepped_by (or_fault (BadReceived n) (instant_at (codes "requestReceivedTimestamp") d)) _ fault h2
+    stepped (or_fault (BadNamespace n) (beside_of choice.by user d)) _ fault h2
+    (λ e. at_step n d (beside_of choice.by user d) (BadNamespace n) fault e (λ no. (refl, beside_shown choice.by user d no))) (λ beside h3.
+    stepped_by (or_fault (BadReceived n) (instant_at (codes "requestReceivedTimestamp") d)) _ fault h3
     (λ e. at_step n d (instant_at (codes "requestReceivedTimestamp") d) (BadReceived n) fault e
-    (λ no. (refl, instant_by (codes "requestReceivedTimestamp") d (get (codes "requestReceivedTimestamp") d) refl no))) (λ received from h3.
-    chosen_shown (is_chosen choice user received) n received schema flow d fault (ok_there (BadReceived n) (instant_at (codes "requestReceivedTimestamp") d) received from) h3)))
+    (λ no. (refl, instant_by (codes "requestReceivedTimestamp") d (get (codes "requestReceivedTimestamp") d) refl no))) (λ received from h4.
+    chosen_shown (is_chosen choice user received) n received schema flow beside d fault (ok_there (BadReceived n) (instant_at (codes "requestReceivedTimestamp") d) received from) h4))))
 
 event_shown : (choice : Choice) (n : ℕ) (d : Data) (fault : AuditFault) → event_of choice n d ≡ Err fault → IsEventAt n d fault
 unfolding event_of is_taken

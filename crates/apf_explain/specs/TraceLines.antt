@@ -4,7 +4,7 @@ use Rattle.std.specs.Io.KnownBytes.{Appends}
 use Rattle.serde_json.specs.Data.{Data}
 use Rattle.serde_json.specs.Find.{get}
 use Rattle.apf_words.specs.Limits.{max_cost, max_width}
-use Rattle.apf_files.specs.JsonFile.{value_of, whole_of}
+use Rattle.apf_files.specs.JsonFile.{value_of}
 use Rattle.apf_times.specs.Limits.{max_arrival, max_run}
 use Rattle.apf_traces.specs.TraceFile.{Line, lines_of, max_lines, max_bytes}
 use Rattle.apf_traces.specs.TraceFaults.{trace_fault_number, line_of}
@@ -39,11 +39,9 @@ abbrev pub required_text : (place key : List ℕ) → Option Data → Wanted →
 required_text place key None wanted = Some (missing_key_text place key wanted)
 required_text place key (Some d) wanted = unwanted_text place key (Some d) wanted
 
--- a request comes too late, which arrives at this time, if that is known
-abbrev pub late_text : List ℕ → Option ℕ → List ℕ
-late_text place (Some at) =
-    place ++ (codes "this request arrives at " ++ (decimal at ++ codes ", and more than 131072 requests of lines before it arrive later\n"))
-late_text place None = place ++ codes "more than 131072 requests of lines before it arrive later\n"
+-- a request comes too late
+abbrev pub late_text : List ℕ → List ℕ
+late_text place = place ++ codes "arrives more than 131072 requests late\n"
 
 -- the fault of a request of a trace that is this value
 abbrev pub trace_value_text : List ℕ → Option Data → TraceFault → Option (List ℕ)
@@ -57,8 +55,7 @@ trace_value_text place o (trace.BadWidth n) =
     unwanted_text place (codes "width") (option_and_then (get (codes "width")) o) (Whole 1 max_width)
 trace_value_text place o (trace.BadCost n) =
     unwanted_text place (codes "cost") (option_and_then (get (codes "cost")) o) (Whole 1 max_cost)
-trace_value_text place o (trace.TooLate n) =
-    Some (late_text place (option_and_then whole_of (option_and_then (get (codes "arrivesAt")) o)))
+trace_value_text place o (trace.TooLate n) = Some (late_text place)
 trace_value_text place o fault = misplaced_text place (codes "a request is a JSON object, but this is ") o
 
 -- this many bytes are too many, where at most this many may be there

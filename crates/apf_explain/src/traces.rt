@@ -1,9 +1,8 @@
 //! The line of a trace's fault.
 
-ghost use Rattle.std.specs.Prelude.{◌≡◌, OnOk, IfOk, IfErr, IfSome, Err, Some, None, codes, option_map, option_and_then};
+ghost use Rattle.std.specs.Prelude.{◌≡◌, OnOk, IfOk, IfErr, IfSome, Err, Some, None, codes, option_map};
 ghost use Rattle.std.specs.Io.KnownBytes.{Appends};
 ghost use Rattle.serde_json.specs.View.{view};
-ghost use Rattle.apf_files.specs.JsonFile.{whole_of};
 ghost use Rattle.apf_traces.specs.TraceFaults.{line_of, trace_fault_number};
 ghost use Rattle.apf_explain.specs.declared.place.Part.TheVariants.{Fault};
 ghost use Rattle.apf_explain.specs.Lines.{place_text};
@@ -26,21 +25,11 @@ use std::alloc::Global;
 use std::io;
 use std::io::Write;
 
-// Writes that a request comes too late, and when it arrives, if this is a number.
-fn write_late<W: Write>(out: &mut W, place: Place<'_>, arrives_at: Option<&Value>) -> io::Result<()>
-    ensures { OnOk result (Appends (W.contents out.old) (W.contents out.new)
-        (late_text (place_text place.entry.name.now place.entry.part) (option_and_then whole_of (option_map (λ value. view value.now) arrives_at.entry)))) }
+// Writes that a request comes too late.
+fn write_late<W: Write>(out: &mut W, place: Place<'_>) -> io::Result<()>
+    ensures { OnOk result (Appends (W.contents out.old) (W.contents out.new) (late_text (place_text place.entry.name.now place.entry.part))) }
 {
-    match arrives_at.and_then(Value::as_u64) {
-        Some(at) => writeln!(
-            out,
-            "{place}this request arrives at {at}, and more than 131072 requests of lines before it arrive later"
-        ),
-        None => writeln!(
-            out,
-            "{place}more than 131072 requests of lines before it arrive later"
-        ),
-    }
+    writeln!(out, "{place}arrives more than 131072 requests late")
 }
 
 // Writes the fault of a request of a trace that is the value.
@@ -84,7 +73,7 @@ fn write_value<W: Write>(
             value_at(value, "cost"),
             Wanted::Whole(1, u64::from(MAX_COST)),
         ),
-        TraceFault::TooLate(_) => write_late(out, place, value_at(value, "arrivesAt")),
+        TraceFault::TooLate(_) => write_late(out, place),
         _ => {
             let found = Found(value);
             writeln!(

@@ -2,17 +2,15 @@ use apf_explain::{ExplainFault, explain_trace, explain_trace_line};
 use apf_traces::TraceFault;
 use std::test::Fail;
 
-// A request that comes too late is told with its time, if it has one, whether the whole trace is there or the line alone.
+// A request that comes too late is told so, whether the whole trace is there or the line alone.
 #[test]
 fn too_late(rt: HostRuntime) -> Result<(), Fail> {
     let line = b"{\"hash\":1,\"arrivesAt\":2,\"runsFor\":3}".as_slice();
-    let told =
-        "apf: trace fault 13 at line 200000: this request arrives at 2, and more than 131072 requests of lines before it arrive later\n";
+    let told = "apf: trace fault 13 at line 200000: arrives more than 131072 requests late\n";
     let mut out = Vec::new(rt.alloc());
     explain_trace_line(rt.alloc(), line, TraceFault::TooLate(200_000), &mut out)?;
     assert_eq!(rt; out.as_slice(), told.as_bytes());
-    let told =
-        "apf: trace fault 13 at line 2: more than 131072 requests of lines before it arrive later\n";
+    let told = "apf: trace fault 13 at line 2: arrives more than 131072 requests late\n";
     let mut out = Vec::new(rt.alloc());
     explain_trace(rt.alloc(), line, TraceFault::TooLate(2), &mut out)?;
     assert_eq!(rt; out.as_slice(), told.as_bytes());

@@ -43,8 +43,8 @@ unwrap-kind-requires c =
     let is = entered_as (subcommand_of apf_app words) _ _ (command_of words parse.faultless) met in
     ap is_some (kind_there _ _ c.kind_of_command.result is c.kind_of_command.ensures)
 
-pub arguments_of-arguments-requires : goal.arguments_of-arguments-requires
-arguments_of-arguments-requires c =
+pub arguments_of-requires : goal.arguments_of-requires
+arguments_of-requires c =
     let words = texts c.args.words.now in
     let m = c.in_ok-matches.matches in
     let parse = parse_of _ words m c.in_ok-apf_command.ensures.app c.in_ok-matches.ensures.matches c.in_ok-matches.ensures.kinds in
@@ -64,11 +64,11 @@ returns-clause-read c =
     let met = sym parse.met ∙ command_met (out-ArgMatches m).subcommand _ _ name rows in
     let is = entered_as (subcommand_of apf_app words) _ _ (command_of words parse.faultless) met in
     let kind = (kind_as _ _ c.kind_of_command.result c.unwrap-kind.result is c.kind_of_command.ensures c.unwrap-kind.ensures).0 in
-    let action : Action = record { command = c.unwrap.result.0; arguments = c.arguments_of-arguments.result } in
+    let action : Action = record { command = c.unwrap.result.0; arguments = c.in_ok-arguments.arguments } in
     let asks : AsksFor c.unwrap.result.0.now (rows_of (found_of c.unwrap.result.1.now)) action = record {
       named = refl;
-      kind = kind ∙ ap (λ k. Some k) (sym c.arguments_of-arguments.ensures.kind);
-      arguments = c.arguments_of-arguments.ensures.read;
+      kind = kind ∙ ap (λ k. Some k) (sym c.in_ok-arguments.ensures.kind);
+      arguments = c.in_ok-arguments.ensures.read;
     } in
     let AsksOf : Action → Type 0 = λ a. AsksFor c.unwrap.result.0.now (rows_of (found_of c.unwrap.result.1.now)) a in
     let IsNamed : Action → Type 0 = λ a. HasLevelName a.arguments in
@@ -86,11 +86,11 @@ returns-clause-ranges c =
     let met = sym parse.met ∙ command_met (out-ArgMatches m).subcommand _ _ name rows in
     let is = entered_as (subcommand_of apf_app words) _ _ (command_of words parse.faultless) met in
     let kind = (kind_as _ _ c.kind_of_command.result c.unwrap-kind.result is c.kind_of_command.ensures c.unwrap-kind.ensures).0 in
-    let action : Action = record { command = c.unwrap.result.0; arguments = c.arguments_of-arguments.result } in
+    let action : Action = record { command = c.unwrap.result.0; arguments = c.in_ok-arguments.arguments } in
     let asks : AsksFor c.unwrap.result.0.now (rows_of (found_of c.unwrap.result.1.now)) action = record {
       named = refl;
-      kind = kind ∙ ap (λ k. Some k) (sym c.arguments_of-arguments.ensures.kind);
-      arguments = c.arguments_of-arguments.ensures.read;
+      kind = kind ∙ ap (λ k. Some k) (sym c.in_ok-arguments.ensures.kind);
+      arguments = c.in_ok-arguments.ensures.read;
     } in
     IfOk-weaker c.judged.result _ _
     (λ a h. subst IsInRange (sym h.0) (in_range c.unwrap.result.0.now (rows_of (found_of c.unwrap.result.1.now)) action asks h.1)) c.judged.ensures.ok
@@ -105,11 +105,11 @@ returns-clause-refused c =
     let met = sym parse.met ∙ command_met (out-ArgMatches m).subcommand _ _ name rows in
     let is = entered_as (subcommand_of apf_app words) _ _ (command_of words parse.faultless) met in
     let kind = (kind_as _ _ c.kind_of_command.result c.unwrap-kind.result is c.kind_of_command.ensures c.unwrap-kind.ensures).0 in
-    let action : Action = record { command = c.unwrap.result.0; arguments = c.arguments_of-arguments.result } in
+    let action : Action = record { command = c.unwrap.result.0; arguments = c.in_ok-arguments.arguments } in
     let asks : AsksFor c.unwrap.result.0.now (rows_of (found_of c.unwrap.result.1.now)) action = record {
       named = refl;
-      kind = kind ∙ ap (λ k. Some k) (sym c.arguments_of-arguments.ensures.kind);
-      arguments = c.arguments_of-arguments.ensures.read;
+      kind = kind ∙ ap (λ k. Some k) (sym c.in_ok-arguments.ensures.kind);
+      arguments = c.in_ok-arguments.ensures.read;
     } in
     let n : Text = c.unwrap.result.0.now in
     let rs = rows_of (found_of c.unwrap.result.1.now) in

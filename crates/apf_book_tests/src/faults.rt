@@ -1,5 +1,6 @@
 //! Why a book is refused, and what each fault prints.
 
+use crate::asserts::is;
 use crate::level::Totals;
 use crate::opening::Fault;
 use crate::scripts::{Row, run, settings};
@@ -38,7 +39,7 @@ fn shaped(queues: u32, hand_size: u32, queue_length_limit: u32) -> Config {
 // The text is the dealer's, the queues', or that of a call without memory, with nothing beside it.
 #[test]
 fn texts_of_faults(rt: HostRuntime) -> Result<(), Fail> {
-    assert_eq!(rt; fault_of(&rt, rt.alloc(), shaped(1, 1, 1)), None);
+    is(&rt, fault_of(&rt, rt.alloc(), shaped(1, 1, 1)), None);
     for (config, text) in [
         (shaped(0, 0, 1), "not positive"),
         (shaped(8, 9, 1), "hand too large"),
@@ -49,9 +50,9 @@ fn texts_of_faults(rt: HostRuntime) -> Result<(), Fail> {
         let Some(Fault::Book(fault)) = fault_of(&rt, rt.alloc(), config) else {
             panic!(rt; "{text}")
         };
-        assert_eq!(rt; fault.to_string(rt.alloc())?.as_str(), text);
+        is(&rt, fault.to_string(rt.alloc())?.as_str(), text);
     }
     let text = BookFault::NoMemory.to_string(rt.alloc())?;
-    assert_eq!(rt; text.as_str(), "out of memory");
+    is(&rt, text.as_str(), "out of memory");
     Ok(())
 }

@@ -9,6 +9,7 @@ ghost use Rattle.apf_gate.specs.Records.{new_desk};
 ghost use Rattle.apf_gate.specs.Tokens.{pass_gate, desk_gate, station_gate};
 ghost use Rattle.apf_book_tests.specs.Batches.{HasRequests};
 
+use crate::asserts::{is, is_enough};
 use crate::judging::{Ended, judge};
 use crate::marks::Mark;
 use crate::opening::{Fault, ask, open_gate, passes_of, requests_of};
@@ -40,15 +41,15 @@ fn enqueue_all<K: Mark, R: Wait + Abort>(
     for place in 0..requests.len() {
         let tried = requests[place].try_take(gate);
         if place == 0 {
-            assert_eq!(rt; tried, Tried::Running);
+            is(rt, tried, Tried::Running);
         } else {
-            assert_eq!(rt; tried, Tried::NoSeats);
+            is(rt, tried, Tried::NoSeats);
             requests[place].ask(gate);
             round.book.lock(rt).hand(rt, gate, &mut requests[place]);
         }
     }
     assert!(rt; !requests.is_empty());
-    assert_eq!(rt; requests[0].finish(gate), Some(true));
+    is(rt, requests[0].finish(gate), Some(true));
 }
 
 // The requests that execute give their seats back.
@@ -216,7 +217,7 @@ fn grants_are_lost_to_cancels(rt: HostRuntime) -> Result<(), Fault> {
     let mut lost = 0u64;
     for number in 0..25 * MOST_ROUNDS {
         let (stats, seen) = open_round(&rt, rt.alloc(), number, config, &asks)?;
-        assert_eq!(rt; stats.entered, 32);
+        is(&rt, stats.entered, 32);
         dispatched = dispatched.saturating_add(u64::from(stats.dispatched));
         struck = struck.saturating_add(u64::from(stats.struck));
         lost = lost.saturating_add(seen);
@@ -224,8 +225,8 @@ fn grants_are_lost_to_cancels(rt: HostRuntime) -> Result<(), Fault> {
             break;
         }
     }
-    assert!(rt; dispatched >= ENOUGH, "{dispatched} dispatched");
-    assert!(rt; struck >= ENOUGH, "{struck} struck");
-    assert!(rt; lost >= ENOUGH, "{lost} lost");
+    is_enough(&rt, dispatched, "dispatched");
+    is_enough(&rt, struck, "struck");
+    is_enough(&rt, lost, "lost");
     Ok(())
 }

@@ -2,6 +2,7 @@
 
 ghost use Rattle.std.specs.Prelude.{◌≡◌, ◌≤◌, length, IfOk, reverse};
 
+use crate::asserts::is;
 use crate::opening::Fault;
 use apf_book::{Ask, Config, Stats};
 use apf_gate::Words;
@@ -62,11 +63,11 @@ fn judge_log<R: Abort>(rt: &R, alloc: Global, ended: &Ended<'_>) -> Result<(), F
     )?;
     assert!(rt; fair);
     let counted = stats_of(alloc, config.queues, history)?;
-    assert_eq!(rt; u64::from(ended.stats.entered), counted.entered);
-    assert_eq!(rt; u64::from(ended.stats.dispatched), counted.dispatched);
-    assert_eq!(rt; u64::from(ended.stats.struck), counted.struck);
-    assert_eq!(rt; u64::from(ended.stats.full), counted.full);
-    assert_eq!(rt; u64::from(ended.stats.waiting), counted.waiting);
+    is(rt, u64::from(ended.stats.entered), counted.entered);
+    is(rt, u64::from(ended.stats.dispatched), counted.dispatched);
+    is(rt, u64::from(ended.stats.struck), counted.struck);
+    is(rt, u64::from(ended.stats.full), counted.full);
+    is(rt, u64::from(ended.stats.waiting), counted.waiting);
     Ok(())
 }
 
@@ -85,14 +86,15 @@ fn judge_decisions<R: Abort>(
     let executed = decided(Decision::Execute, decisions);
     let cancelled = decided(Decision::Cancelled, decisions);
     let full = decided(Decision::QueueFull, decisions);
-    assert_eq!(rt; executed + cancelled + full, ended.asks.len() as u32);
+    is(rt, executed + cancelled + full, ended.asks.len() as u32);
     let took = ended.took.iter().filter(|took| **took).count();
-    assert_eq!(rt;
+    is(
+        rt,
         u64::from(ended.stats.dispatched) + took as u64,
-        u64::from(executed)
+        u64::from(executed),
     );
-    assert_eq!(rt; ended.stats.full, full);
-    assert_eq!(rt; ended.stats.waiting, 0);
+    is(rt, ended.stats.full, full);
+    is(rt, ended.stats.waiting, 0);
     Ok(())
 }
 
@@ -123,8 +125,8 @@ pub fn judge<R: Abort>(
     requires { length words.now.decisions ≡ length ended.now.asks.now }
 {
     let level = words.level();
-    assert_eq!(rt; level.seats(), 0);
-    assert_eq!(rt; level.waiters(), 0);
+    is(rt, level.seats(), 0);
+    is(rt, level.waiters(), 0);
     let few = ended.asks.len() < 1000;
     assert!(rt; few);
     let decisions = decisions_of(alloc, words, ended.asks.len() as u32)?;

@@ -9,6 +9,7 @@
 //! - `scripts`: a script with the answers and events that it is to have.
 //! - `judging`: the plain program judges a level that ended.
 //! - `shared`: a book under a lock, and what threads do with it.
+//! - `asserts`: assertions as calls.
 //!
 //! In one thread:
 //!
@@ -24,6 +25,8 @@
 //! - `grants`: requests that wait are dispatched while they are cancelled, and some grants are lost.
 #![tactic(auto)]
 
+#[cfg(test)]
+mod asserts;
 #[cfg(test)]
 mod faults;
 #[cfg(test)]

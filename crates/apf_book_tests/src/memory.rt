@@ -1,5 +1,6 @@
 //! Each allocation refused in turn.
 
+use crate::asserts::{is, is_at};
 use crate::opening::{Fault, ask, open_gate};
 use crate::rows::strike_on;
 use crate::scripts::settings;
@@ -24,7 +25,7 @@ fn each_refusal_of_memory_is_told_by_new(rt: HostRuntime) {
         if !alloc.has_refused() {
             quiet = quiet.saturating_add(1);
         }
-        assert_eq!(rt; alloc.has_refused(), quiet == 0, "at {refused}");
+        is_at(&rt, alloc.has_refused(), quiet == 0, refused);
         match answer {
             Ok(()) => {}
             Err(_) if quiet > 0 => panic!(rt; "nothing was refused"),
@@ -66,7 +67,7 @@ fn refusals<R: Abort>(rt: &R, alloc: Global, has_costs: bool) -> u32 {
         let short = Refusing::new(alloc, refused);
         let answer = opened(rt, &short, has_costs);
         match answer {
-            Ok(stats) => assert_eq!(rt; [stats.entered, stats.waiting], [0, 0]),
+            Ok(stats) => is(rt, [stats.entered, stats.waiting], [0, 0]),
             Err(_) if !short.has_refused() => panic!(rt; "nothing was refused"),
             Err(Fault::Book(BookFault::NoMemory)) => book = book.saturating_add(1),
             Err(Fault::NoMemory | Fault::Gate(GateFault::NoMemory)) => {}

@@ -4,6 +4,7 @@ ghost use Rattle.std.specs.Prelude.{◌<◌, ◌↔◌, All, IsTrue};
 ghost use Rattle.apf_words.specs.Limits.{max_queues};
 ghost use Rattle.apf_model.specs.History.{queue_of};
 
+use crate::asserts::{is, is_at};
 use crate::stretches::{Row, assert_legal, have_widths};
 use apf_book::Wait;
 use apf_model::Event::{self, Dispatch, Enter, Strike};
@@ -83,11 +84,7 @@ fn waits(rt: HostRuntime) -> Result<(), Fail> {
         (5, None),
         (9, None),
     ] {
-        assert_eq!(rt;
-            wait_in(&rt, rt.alloc(), row, request)?,
-            want,
-            "request {request}"
-        );
+        is_at(&rt, wait_in(&rt, rt.alloc(), row, request)?, want, request);
     }
     Ok(())
 }
@@ -100,7 +97,7 @@ fn waits_at_the_end(rt: HostRuntime) -> Result<(), Fail> {
         queues: QUEUES,
         widths: WIDTHS,
     };
-    assert_eq!(rt; wait_in(&rt, rt.alloc(), row, 2)?, wait(0, 5, 4, 6));
-    assert_eq!(rt; wait_in(&rt, rt.alloc(), row, 4)?, wait(2, 0, 0, 0));
+    is(&rt, wait_in(&rt, rt.alloc(), row, 2)?, wait(0, 5, 4, 6));
+    is(&rt, wait_in(&rt, rt.alloc(), row, 4)?, wait(2, 0, 0, 0));
     Ok(())
 }

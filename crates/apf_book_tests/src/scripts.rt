@@ -7,6 +7,7 @@ ghost use Rattle.apf_gate.specs.Gauges.{IsShape};
 ghost use Rattle.apf_gate.specs.Records.{new_desk};
 ghost use Rattle.apf_gate.specs.Tokens.{pass_gate, desk_gate, station_gate};
 
+use crate::asserts::{is, is_at};
 use crate::level::{Answer, Command, Level, Totals};
 use crate::marks::Mark;
 use crate::opening::{Fault, open_gate};
@@ -105,8 +106,8 @@ fn play<A: Allocator + Copy, K: Mark, R: Wait + Abort>(
     for step in row.steps {
         follow(rt, &mut level, step);
     }
-    assert_eq!(rt; level.totals(), row.totals);
-    assert_eq!(rt; has_refused(watched), refused);
+    is(rt, level.totals(), row.totals);
+    is(rt, has_refused(watched), refused);
     Ok(())
 }
 
@@ -118,8 +119,8 @@ fn follow<A: Allocator, K: Mark, R: Wait + Abort>(
 ) {
     let before = level.log().len();
     let answer = level.act(rt, step.command);
-    assert_eq!(rt; answer, step.answer, "{:?}", step.command);
+    is_at(rt, answer, step.answer, step.command);
     let log = level.log();
     assert!(rt; before <= log.len());
-    assert_eq!(rt; &log[before..], step.events, "{:?}", step.command);
+    is_at(rt, &log[before..], step.events, step.command);
 }

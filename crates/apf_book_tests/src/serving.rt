@@ -9,6 +9,7 @@ ghost use Rattle.apf_gate.specs.Records.{new_desk};
 ghost use Rattle.apf_gate.specs.Tokens.{pass_gate, desk_gate, station_gate};
 ghost use Rattle.apf_book_tests.specs.Batches.{HasRequests};
 
+use crate::asserts::is_enough;
 use crate::judging::{Ended, judge};
 use crate::marks::Mark;
 use crate::opening::{Fault, ask, open_gate, passes_of, requests_of};
@@ -245,9 +246,9 @@ fn four_threads_while_two_cancel(rt: HostRuntime) -> Result<(), Fault> {
             break;
         }
     }
-    assert!(rt; dispatched >= ENOUGH, "{dispatched} dispatched");
-    assert!(rt; struck >= ENOUGH, "{struck} struck");
-    assert!(rt; full >= ENOUGH, "{full} full");
-    assert!(rt; taken >= ENOUGH, "{taken} taken");
+    is_enough(&rt, dispatched, "dispatched");
+    is_enough(&rt, struck, "struck");
+    is_enough(&rt, full, "full");
+    is_enough(&rt, taken, "taken");
     Ok(())
 }

@@ -4,6 +4,7 @@ ghost use Rattle.std.specs.Prelude.{◌<◌, ◌↔◌, length, reverse, All, On
 ghost use Rattle.apf_model.specs.History.{request_of, IsLegal};
 ghost use Rattle.apf_plain.specs.Histories.{hand_in};
 
+use crate::asserts::is_at;
 use crate::judging::newest_first;
 use apf_model::Event::{self, Dispatch, Enter};
 use apf_plain::is_legal;
@@ -85,10 +86,11 @@ fn balance(rt: HostRuntime) -> Result<(), Fail> {
         (2, 5, None),
         (4, 6, None),
     ] {
-        assert_eq!(rt;
+        is_at(
+            &rt,
             services(&rt, rt.alloc(), row, from, to)?,
             want,
-            "from {from} to {to}"
+            (from, to),
         );
     }
     Ok(())

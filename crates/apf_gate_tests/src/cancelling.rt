@@ -4,6 +4,7 @@ ghost use Rattle.std.specs.Prelude.{◌≡◌};
 ghost use Rattle.apf_gate.specs.Tokens.{desk_gate, station_gate};
 ghost use Rattle.apf_gate_tests.specs.Stages.{IsNamed};
 
+use crate::asserts::{is, is_enough};
 use crate::crews::{DeskWork, StationWork};
 use crate::desks::StagedDesk;
 use crate::stand::Stand;
@@ -133,7 +134,7 @@ impl Orders {
         let cancelled = round.cancelled.load(Ordering::SeqCst);
         match served {
             Served::Executed => {
-                assert_eq!(rt; cancelled, 0);
+                is(rt, cancelled, 0);
                 self.executed = self.executed.saturating_add(1);
                 let undecided = round.undecided.load(Ordering::SeqCst);
                 self.overtaken_stations = self.overtaken_stations.saturating_add(undecided);
@@ -143,7 +144,7 @@ impl Orders {
             Served::Left => self.left = self.left.saturating_add(1),
             Served::NotGranted => panic!(rt; "there is room"),
         }
-        assert_eq!(rt; cancelled, 8);
+        is(rt, cancelled, 8);
         Decision::Cancelled
     }
 
@@ -155,11 +156,6 @@ impl Orders {
             .min(self.overtaken_stations)
             >= ENOUGH
     }
-}
-
-// Asserts that this many came, which is enough.
-fn is_enough<R: Abort>(rt: &R, count: u64, what: &str) {
-    assert!(rt; count >= ENOUGH, "{count} {what}");
 }
 
 // One round in which the Desk grants the request while eight cancel it.
@@ -210,7 +206,7 @@ fn cancel_all<R: Threads + Wait + Abort + Sync>(rt: &R, alloc: Global, number: u
     let mut stand = Stand::waiting(rt, alloc, 8);
     let round = Round::new(number, 8);
     stand.stations_work(rt, StationWork::Cancel(&round));
-    assert_eq!(rt; round.cancelled.load(Ordering::SeqCst), 8);
+    is(rt, round.cancelled.load(Ordering::SeqCst), 8);
     stand.told(rt, 0, Some(Decision::Cancelled));
     stand.seen(rt, 0, Some(Decision::Cancelled));
     stand.leave(rt, 0);

@@ -3,6 +3,7 @@
 ghost use Rattle.std.specs.Prelude.{◌≡◌};
 ghost use Rattle.apf_gate.specs.Tokens.{station_gate};
 
+use crate::asserts::{is, is_enough};
 use crate::crews::StationWork;
 use crate::stand::Stand;
 use crate::stations;
@@ -58,7 +59,7 @@ fn close_all<R: Threads + Wait + Abort + Sync>(rt: &R, alloc: Global, number: u3
     let mut stand = Stand::open(rt, alloc, 1, &[1], 8, Response::Queue);
     let round = Closes::new(number);
     stand.stations_work(rt, StationWork::Close(&round));
-    assert_eq!(rt; round.first.load(Ordering::SeqCst), 1);
+    is(rt, round.first.load(Ordering::SeqCst), 1);
     stand.take(rt, 0, TryTake::Closed);
     let words = stand.end(rt, alloc);
     words.closed(rt, true);
@@ -77,5 +78,5 @@ fn eight_close(rt: HostRuntime) {
             break;
         }
     }
-    assert!(rt; overtaken >= ENOUGH, "{overtaken} overtaken");
+    is_enough(&rt, overtaken, "overtaken");
 }

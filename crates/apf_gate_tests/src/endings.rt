@@ -2,6 +2,7 @@
 
 ghost use Rattle.std.specs.Prelude.{◌≤◌, length};
 
+use crate::asserts::is;
 use apf_gate::Words;
 use apf_words::{Decision, LevelWord};
 use std::alloc::Global;
@@ -31,28 +32,28 @@ impl Ended {
     /// Asserts that this is the request's decision.
     pub fn decision<R: Abort>(&self, rt: &R, request: u32, decision: Option<Decision>) {
         assert!(rt; request < self.count);
-        assert_eq!(rt; self.words.decision(request), decision);
+        is(rt, self.words.decision(request), decision);
     }
 
     /// Asserts that this is the limit.
     pub fn limit<R: Abort>(&self, rt: &R, limit: u32) {
-        assert_eq!(rt; self.words.level().limit(), limit);
+        is(rt, self.words.level().limit(), limit);
     }
 
     /// Asserts that the level is closed, or that it is not.
     pub fn closed<R: Abort>(&self, rt: &R, closed: bool) {
-        assert_eq!(rt; self.words.level().closed(), closed);
+        is(rt, self.words.level().closed(), closed);
     }
 
     /// Asserts that this many seats are taken.
     pub fn seats<R: Abort>(&self, rt: &R, seats: u32) {
-        assert_eq!(rt; self.words.level().seats(), seats);
+        is(rt, self.words.level().seats(), seats);
     }
 
     /// Asserts that this many seats are taken, and that this many requests wait.
     pub fn has<R: Abort>(&self, rt: &R, seats: u32, waiters: u32) {
         self.seats(rt, seats);
-        assert_eq!(rt; self.words.level().waiters(), waiters);
+        is(rt, self.words.level().waiters(), waiters);
     }
 
     /// How many requests were executed.

@@ -1,5 +1,6 @@
 //! Why a gate is not opened: each fault at its edge, and the first of several.
 
+use crate::asserts::is;
 use apf_gate::{Gate, GateFault};
 use apf_model::Response;
 use std::alloc::Global;
@@ -22,7 +23,7 @@ fn has_fault<R: Abort>(
     stations: u32,
     fault: Option<GateFault>,
 ) {
-    assert_eq!(rt; fault_of(alloc, limit, widths, stations), fault);
+    is(rt, fault_of(alloc, limit, widths, stations), fault);
 }
 
 // Asserts that a gate of 10,001 requests, all but the last of one seat, has this fault.

@@ -5,7 +5,7 @@
 //! - `stage`: how far a token is. It is no test itself, as `specs/` name it.
 //! - `requests`, `desks`, `stations`: the calls of each kind of token, with no more in their contracts than tests need.
 //! - `stand`: a gate with all its tokens. `endings`: what its words say at its end.
-//! - `crews`: the threads, each with tokens of its own.
+//! - `crews`: the threads, each with tokens of its own. `asserts`: assertions as calls.
 //!
 //! In one thread:
 //!
@@ -26,6 +26,8 @@
 //! - `sleeping`: those who sleep until a request is decided.
 #![tactic(auto)]
 
+#[cfg(test)]
+mod asserts;
 #[cfg(test)]
 mod cancelling;
 #[cfg(test)]

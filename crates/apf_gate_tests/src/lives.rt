@@ -4,6 +4,7 @@ ghost use denote.Param.Send.{IsSync};
 ghost use Rattle.std.specs.Prelude.{◌≡◌, length, All};
 ghost use Rattle.apf_gate.specs.Tokens.{pass_gate, station_gate};
 
+use crate::asserts::is;
 use crate::requests::Request;
 use crate::stand::{passes_of, requests_of};
 use apf_gate::{Cancel, Gate, LifeWords, Renew, Station, Ticket, TryTake};
@@ -279,6 +280,14 @@ fn decided<R: Abort>(rt: &R, board: &Board) -> (u64, u64) {
     (executed, cancelled)
 }
 
+// Asserts that some cancels were late, and some requests were cancelled.
+fn some_of_each<R: Abort>(rt: &R, late: u64, cancelled: u64) {
+    assert!(rt;
+        late > 0 && cancelled > 0,
+        "{late} were late, {cancelled} were cancelled"
+    );
+}
+
 // Each request has one decision, whoever was told it, early or late. Late cancels wrote nothing, and some were late.
 #[test]
 fn a_million_requests_over_eight_slots(rt: HostRuntime) {
@@ -286,16 +295,18 @@ fn a_million_requests_over_eight_slots(rt: HostRuntime) {
     let words = live(&rt, rt.alloc(), &board);
     let (executed, cancelled) = decided(&rt, &board);
     let counts = words.counts();
-    assert_eq!(rt; executed.saturating_add(cancelled), 1_000_000);
-    assert_eq!(rt; (counts.executed, counts.cancelled), (executed, cancelled));
-    assert_eq!(rt;
+    is(&rt, executed.saturating_add(cancelled), 1_000_000);
+    is(
+        &rt,
+        (counts.executed, counts.cancelled),
+        (executed, cancelled),
+    );
+    is(
+        &rt,
         (counts.queue_full, counts.closed, counts.concurrency_limit),
-        (0, 0, 0)
+        (0, 0, 0),
     );
-    assert_eq!(rt; words.level().seats(), 0);
+    is(&rt, words.level().seats(), 0);
     let late = board.late.load(Ordering::SeqCst);
-    assert!(rt;
-        late > 0 && cancelled > 0,
-        "{late} were late, {cancelled} were cancelled"
-    );
+    some_of_each(&rt, late, cancelled);
 }

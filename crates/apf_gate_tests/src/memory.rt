@@ -2,6 +2,7 @@
 
 ghost use Rattle.std.specs.Prelude.{◌<◌};
 
+use crate::asserts::is;
 use apf_gate::{Gate, GateFault};
 use apf_model::Response;
 use apf_short::Refusing;
@@ -18,10 +19,10 @@ fn opens<R: Abort>(rt: &R, alloc: Global, refused: u32) -> bool
         Err(fault) => Some(fault),
     };
     match fault {
-        Some(fault) => assert_eq!(rt; fault, GateFault::NoMemory),
+        Some(fault) => is(rt, fault, GateFault::NoMemory),
         None => assert!(rt; 1 < refused),
     }
-    assert_eq!(rt; alloc.has_refused(), fault.is_some());
+    is(rt, alloc.has_refused(), fault.is_some());
     fault.is_none()
 }
 
@@ -51,6 +52,6 @@ fn refuses<R: Abort>(rt: &R, alloc: Global, refused: u32) -> [bool; 2]
 
 #[test]
 fn each_refusal_of_memory_is_told_by_end(rt: HostRuntime) {
-    assert_eq!(rt; refuses(&rt, rt.alloc(), 1), [true, true]);
-    assert_eq!(rt; refuses(&rt, rt.alloc(), 2), [false, false]);
+    is(&rt, refuses(&rt, rt.alloc(), 1), [true, true]);
+    is(&rt, refuses(&rt, rt.alloc(), 2), [false, false]);
 }

@@ -3,9 +3,12 @@
 ghost use Rattle.std.specs.Prelude.{◌≡◌, [], None};
 ghost use Rattle.apf_model.specs.declared.response.Response.TheVariants.{Queue};
 ghost use Rattle.apf_gate.specs.declared.record.State.TheVariants.{Fresh};
+ghost use Rattle.apf_gate.specs.Slots.{IsTicket};
 ghost use Rattle.apf_gate.specs.Tokens.{pass_gate, desk_gate, station_gate};
 
-use apf_gate::{Cancel, Close, Desk, Gate, Pass, Station, TrySetLimit, TryTake};
+use crate::asserts::is;
+use crate::stations;
+use apf_gate::{Cancel, Close, Desk, Gate, Pass, Station, Ticket, TrySetLimit, TryTake};
 use apf_model::Response;
 use apf_words::Decision;
 use std::alloc::Global;
@@ -29,9 +32,13 @@ fn refuse_as_heard<R: Abort>(
     let None = gate.ask(pass) else {
         panic!(rt; "undecided")
     };
-    assert_eq!(rt; gate.close(station), Close::First);
+    is(rt, gate.close(station), Close::First);
     gate.hear_station(desk, station);
-    assert_eq!(rt; gate.refuse(desk, pass, Decision::Closed), Decision::Closed);
+    is(
+        rt,
+        gate.refuse(desk, pass, Decision::Closed),
+        Decision::Closed,
+    );
     let Some(Decision::Closed) = gate.hear(desk, pass) else {
         panic!(rt; "heard")
     };
@@ -66,23 +73,40 @@ fn a_hearing_changes_no_word(rt: HostRuntime) {
     let TryTake::Taken = gate.try_take(&mut pass) else {
         panic!(rt; "takes")
     };
-    gate.hear_station(&mut desk, &mut first);
-    assert_eq!(rt;
-        gate.try_set_limit(&mut first, 9),
-        TrySetLimit::Set(4, false)
+    stations::tell(&gate, &mut first, &mut desk);
+    is(
+        &rt,
+        stations::set_limit(&gate, &mut first, 9),
+        TrySetLimit::Set(4, false),
     );
-    gate.hear_station(&mut desk, &mut first);
-    gate.hear_station(&mut desk, &mut second);
-    assert_eq!(rt;
-        gate.try_set_limit(&mut second, 7),
-        TrySetLimit::Set(9, false)
+    stations::tell(&gate, &mut first, &mut desk);
+    stations::tell(&gate, &mut second, &mut desk);
+    is(
+        &rt,
+        stations::set_limit(&gate, &mut second, 7),
+        TrySetLimit::Set(9, false),
     );
-    gate.hear_station(&mut desk, &mut second);
+    stations::tell(&gate, &mut second, &mut desk);
     let level = gate.view(&mut desk);
-    assert_eq!(rt; level.limit(), 7);
-    assert_eq!(rt; level.seats(), 3);
-    assert_eq!(rt; level.waiters(), 0);
+    is(&rt, level.limit(), 7);
+    is(&rt, level.seats(), 3);
+    is(&rt, level.waiters(), 0);
     assert!(rt; !level.closed());
+}
+
+// The Station cancels the request, and wakes nobody. It is answered so.
+fn cancels_quietly<R: Abort>(
+    rt: &R,
+    gate: &Gate<Global>,
+    station: &mut Station,
+    ticket: Ticket,
+    answer: Cancel,
+)
+    requires own { station_gate station.old ≡ gate.now }
+    requires is_request { IsTicket gate.now.shape ticket.number }
+    ensures { station_gate station.new ≡ gate.now }
+{
+    is(rt, gate.cancel_without_wake(station, ticket), answer);
 }
 
 // Who wakes nobody is answered as who does.
@@ -96,23 +120,12 @@ fn a_cancel_wakes_nobody(rt: HostRuntime) {
         panic!(rt; "tokens")
     };
     let ticket = pass.ticket();
-    assert_eq!(rt;
-        gate.cancel_without_wake(&mut station, ticket),
-        Cancel::Is(Decision::Cancelled)
-    );
-    assert_eq!(rt;
-        gate.cancel_without_wake(&mut station, ticket),
-        Cancel::Is(Decision::Cancelled)
-    );
-    assert_eq!(rt;
-        gate.cancel(&mut station, ticket),
-        Cancel::Is(Decision::Cancelled)
-    );
+    let cancelled = Cancel::Is(Decision::Cancelled);
+    cancels_quietly(&rt, &gate, &mut station, ticket, cancelled);
+    cancels_quietly(&rt, &gate, &mut station, ticket, cancelled);
+    is(&rt, gate.cancel(&mut station, ticket), cancelled);
     gate.renew(&mut pass, 2, 7, 20);
-    assert_eq!(rt;
-        gate.cancel_without_wake(&mut station, ticket),
-        Cancel::Other
-    );
+    cancels_quietly(&rt, &gate, &mut station, ticket, Cancel::Other);
 }
 
 // All tokens of a gate are handed in while it goes on. The Desk is there afterwards.
@@ -123,5 +136,5 @@ fn all_tokens_are_here(rt: HostRuntime) {
         panic!(rt; "opens")
     };
     gate.all_are_here(&mut desk, passes, stations);
-    assert_eq!(rt; gate.view(&mut desk).limit(), 5);
+    is(&rt, gate.view(&mut desk).limit(), 5);
 }

@@ -7,6 +7,7 @@ ghost use Rattle.apf_gate.specs.declared.record.State.TheVariants.{Fresh};
 ghost use Rattle.apf_gate.specs.Slots.{IsTicket};
 ghost use Rattle.apf_gate.specs.Tokens.{pass_gate, desk_gate, station_gate};
 
+use crate::asserts::is;
 use crate::requests::Request;
 use crate::stations;
 use apf_gate::{Cancel, Desk, Gate, Pass, Read, Renew, Station, Ticket, TryEnter, TryTake};
@@ -54,7 +55,7 @@ impl Slot {
         requires { IsTicket self.old.gate.shape ticket.number }
         ensures { self.new.gate ≡ self.old.gate }
     {
-        assert_eq!(rt; self.gate.cancel(&mut self.station, ticket), answer);
+        is(rt, self.gate.cancel(&mut self.station, ticket), answer);
     }
 
     // The Station reads this request's decision. It is answered so.
@@ -62,7 +63,7 @@ impl Slot {
         requires { IsTicket self.old.gate.shape ticket.number }
         ensures { self.new.gate ≡ self.old.gate }
     {
-        assert_eq!(rt; self.gate.read(&mut self.station, ticket), answer);
+        is(rt, self.gate.read(&mut self.station, ticket), answer);
     }
 
     // This many seats are taken.
@@ -70,22 +71,22 @@ impl Slot {
         ensures { self.new.gate ≡ self.old.gate }
     {
         let level = stations::look(&self.gate, &mut self.station);
-        assert_eq!(rt; level.seats(), seats);
+        is(rt, level.seats(), seats);
     }
 
     // The request takes its seats.
     fn takes<R: Abort>(&mut self, rt: &R)
         ensures { self.new.gate ≡ self.old.gate }
     {
-        assert_eq!(rt; self.request.take(&self.gate), Some(TryTake::Taken));
+        is(rt, self.request.take(&self.gate), Some(TryTake::Taken));
     }
 
     // The request writes execute. It is answered so, and gives its seats back.
     fn ends<R: Abort>(&mut self, rt: &R, answer: Decision)
         ensures { self.new.gate ≡ self.old.gate }
     {
-        assert_eq!(rt; self.request.execute(&self.gate), Some(answer));
-        assert_eq!(rt; self.request.release(&self.gate), Some(false));
+        is(rt, self.request.execute(&self.gate), Some(answer));
+        is(rt, self.request.release(&self.gate), Some(false));
     }
 
     // The next request of the slot begins, with this width. It is answered so.
@@ -94,7 +95,7 @@ impl Slot {
         requires narrow { width ≤ max_width }
         ensures { self.new.gate ≡ self.old.gate }
     {
-        assert_eq!(rt; self.request.renew(&self.gate, width), Some(answer));
+        is(rt, self.request.renew(&self.gate, width), Some(answer));
     }
 }
 
@@ -103,7 +104,7 @@ impl Slot {
 fn a_late_cancel_misses(rt: HostRuntime) {
     let mut slot = Slot::open(&rt, rt.alloc());
     let first = slot.ticket();
-    assert_eq!(rt; first, Ticket::of(1));
+    is(&rt, first, Ticket::of(1));
     slot.takes(&rt);
     slot.has(&rt, 2);
     slot.ends(&rt, Decision::Execute);
@@ -112,8 +113,8 @@ fn a_late_cancel_misses(rt: HostRuntime) {
     slot.cancel(&rt, first, Cancel::Other);
     slot.read(&rt, first, Read::Other);
     let second = slot.ticket();
-    assert_eq!(rt; second.number, (32_768 + 3) * 16_384 + 1);
-    assert_eq!(rt; second.slot(), 1);
+    is(&rt, second.number, (32_768 + 3) * 16_384 + 1);
+    is(&rt, second.slot(), 1);
     slot.read(&rt, second, Read::Is(None));
 }
 
@@ -139,7 +140,11 @@ fn a_slot_is_renewed_often(rt: HostRuntime) {
     for _ in 0..1_000_000u32 {
         slot.renews(&rt, 5, Renew::Began(None));
     }
-    assert_eq!(rt; slot.ticket().number, (1_000_000 * 32_768 + 5) * 16_384 + 1);
+    is(
+        &rt,
+        slot.ticket().number,
+        (1_000_000 * 32_768 + 5) * 16_384 + 1,
+    );
     slot.takes(&rt);
     slot.has(&rt, 5);
 }
@@ -160,8 +165,8 @@ fn a_batch_is_spent(rt: HostRuntime) {
         panic!(rt; "a Pass")
     };
     let mut request = Request::new(pass);
-    assert_eq!(rt; request.renew(&gate, 3), Some(Renew::Spent));
-    assert_eq!(rt; request.take(&gate), Some(TryTake::Taken));
+    is(&rt, request.renew(&gate, 3), Some(Renew::Spent));
+    is(&rt, request.take(&gate), Some(TryTake::Taken));
 }
 
 // A gate knows the tickets of its own slots, up to the last number, and no others.
@@ -178,7 +183,7 @@ fn a_gate_knows_its_tickets(rt: HostRuntime) {
         (last - 16_384, true),
         (last, false),
     ] {
-        assert_eq!(rt; slot.gate.knows(Ticket { number }), known);
+        is(&rt, slot.gate.knows(Ticket { number }), known);
     }
 }
 
@@ -204,9 +209,10 @@ fn strike<R: Abort>(
     let TryEnter::Entered = gate.try_enter(desk, pass) else {
         panic!(rt; "enters")
     };
-    assert_eq!(rt;
+    is(
+        rt,
         gate.cancel(station, ticket),
-        Cancel::Is(Decision::Cancelled)
+        Cancel::Is(Decision::Cancelled),
     );
     let Some(Decision::Cancelled) = gate.seen(desk, ticket.number) else {
         panic!(rt; "seen")
@@ -215,12 +221,13 @@ fn strike<R: Abort>(
     let Some(Decision::Cancelled) = gate.hear(desk, pass) else {
         panic!(rt; "heard")
     };
-    assert_eq!(rt;
+    is(
+        rt,
         gate.renew(pass, 1, 7, 20),
-        Renew::Began(Some(Decision::Cancelled))
+        Renew::Began(Some(Decision::Cancelled)),
     );
-    assert_eq!(rt; gate.cancel(station, ticket), Cancel::Other);
-    assert_eq!(rt; gate.look(station).waiters(), 0);
+    is(rt, gate.cancel(station, ticket), Cancel::Other);
+    is(rt, gate.look(station).waiters(), 0);
 }
 
 #[test]

@@ -3,6 +3,7 @@
 ghost use Rattle.std.specs.Prelude.{◌≡◌, ◌≤◌};
 ghost use Rattle.apf_gate.specs.Tokens.{pass_gate, station_gate};
 
+use crate::asserts::{is, is_enough};
 use crate::crews::{RequestWork, StationWork};
 use crate::endings::Ended;
 use crate::requests::Request;
@@ -167,7 +168,7 @@ fn serve_beside<R: Threads + Wait + Abort + Sync>(
     );
     let words = stand.end(rt, alloc);
     words.has(rt, 0, 0);
-    assert_eq!(rt; words.executed(), 4000);
+    is(rt, words.executed(), 4000);
     words
 }
 
@@ -201,8 +202,12 @@ fn eight_set_limits_while_four_take(rt: HostRuntime) {
         let counts = Counts::new();
         let words = serve_beside(&rt, rt.alloc(), &counts, 8);
         let last = u64::from(words.level().limit());
-        assert_eq!(rt; counts.set.load(Ordering::SeqCst), 800);
-        assert_eq!(rt; counts.old.load(Ordering::SeqCst).wrapping_add(last), 3538);
+        is(&rt, counts.set.load(Ordering::SeqCst), 800);
+        is(
+            &rt,
+            counts.old.load(Ordering::SeqCst).wrapping_add(last),
+            3538,
+        );
         assert!(rt; (1..=8).contains(&words.level().limit()));
         assert!(rt; counts.most() <= 8);
         raced = raced.saturating_add(counts.raced.load(Ordering::SeqCst));
@@ -211,8 +216,6 @@ fn eight_set_limits_while_four_take(rt: HostRuntime) {
             break;
         }
     }
-    assert!(rt;
-        raced.min(set_raced) >= ENOUGH,
-        "{raced} of the takes, {set_raced} of the settings"
-    );
+    is_enough(&rt, raced, "of the takes");
+    is_enough(&rt, set_raced, "of the settings");
 }

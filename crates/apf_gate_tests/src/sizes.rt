@@ -1,5 +1,6 @@
 //! The smallest gate and the largest.
 
+use crate::asserts::is;
 use crate::crews::RequestWork;
 use crate::serving::Counts;
 use crate::stand::Stand;
@@ -9,7 +10,7 @@ use apf_model::Response;
 #[test]
 fn no_requests(rt: HostRuntime) {
     let mut stand = Stand::open(&rt, rt.alloc(), 1, &[], 1, Response::Queue);
-    assert_eq!(rt; stand.requests.len(), 0);
+    is(&rt, stand.requests.len(), 0);
     stand.set_limit(&rt, 0, 3, TrySetLimit::Set(1, false));
     let words = stand.end(&rt, rt.alloc());
     words.has(&rt, 0, 0);
@@ -30,12 +31,12 @@ fn ten_thousand_requests(rt: HostRuntime) {
         64,
         Response::Queue,
     );
-    assert_eq!(rt; stand.requests.len(), 10_000);
-    assert_eq!(rt; stand.number(9_999), Some(9_999));
-    assert_eq!(rt; stand.stations.len(), 64);
+    is(&rt, stand.requests.len(), 10_000);
+    is(&rt, stand.number(9_999), Some(9_999));
+    is(&rt, stand.stations.len(), 64);
     stand.requests_work(&rt, RequestWork::Serve(&Counts::new()));
     let words = stand.end(&rt, rt.alloc());
     words.has(&rt, 0, 0);
     words.limit(&rt, 10_000);
-    assert_eq!(rt; words.executed(), 10_000);
+    is(&rt, words.executed(), 10_000);
 }

@@ -5,6 +5,7 @@ ghost use Rattle.apf_gate.specs.Slots.{IsTicket};
 ghost use Rattle.apf_gate.specs.Tokens.{pass_gate, desk_gate, station_gate};
 ghost use Rattle.apf_gate_tests.specs.Stages.{IsNamed};
 
+use crate::asserts::{is, is_at};
 use crate::cancelling::Served;
 use crate::crews::{DeskWork, RequestWork, StationWork};
 use crate::desks::StagedDesk;
@@ -164,7 +165,7 @@ fn sleep_beside_cancel<R: Threads + Wait + Abort + Sync>(rt: &R, alloc: Global, 
     let work = (RequestWork::Sleep(sleeps), StationWork::CancelLater(sleeps));
     stand.both_work(rt, work);
     let words = stand.end(rt, alloc);
-    assert_eq!(rt; words.level().waiters(), 1);
+    is(rt, words.level().waiters(), 1);
     words.decision(rt, 0, Some(Decision::Cancelled));
 }
 
@@ -176,7 +177,7 @@ fn a_cancel_wakes(rt: HostRuntime) {
     for round in 0..20u64 {
         sleeps.begun.store(0, Ordering::SeqCst);
         sleep_beside_cancel(&rt, rt.alloc(), &sleeps);
-        assert_eq!(rt; sleeps.cancelled.load(Ordering::SeqCst), round + 1);
+        is(&rt, sleeps.cancelled.load(Ordering::SeqCst), round + 1);
         assert!(rt; sleeps.slept.load(Ordering::SeqCst) > round);
     }
     assert!(rt; sleeps.slept.load(Ordering::SeqCst) < 120);
@@ -199,7 +200,7 @@ fn a_settle_wakes(rt: HostRuntime) {
     for round in 0..20u64 {
         sleeps.begun.store(0, Ordering::SeqCst);
         sleep_beside_grant(&rt, rt.alloc(), &sleeps);
-        assert_eq!(rt; sleeps.executed.load(Ordering::SeqCst), round + 1);
+        is(&rt, sleeps.executed.load(Ordering::SeqCst), round + 1);
         assert!(rt; sleeps.slept.load(Ordering::SeqCst) > round);
     }
     assert!(rt; sleeps.slept.load(Ordering::SeqCst) < 120);
@@ -214,8 +215,8 @@ fn sleep_all_beside_grant<R: Threads + Wait + Abort + Sync>(rt: &R, alloc: Globa
         StationWork::Sleep(&sleeps),
     );
     stand.desk_beside_stations(rt, work);
-    assert_eq!(rt; sleeps.begun.load(Ordering::SeqCst), 8);
-    assert_eq!(rt; sleeps.executed.load(Ordering::SeqCst), 8);
+    is(rt, sleeps.begun.load(Ordering::SeqCst), 8);
+    is(rt, sleeps.executed.load(Ordering::SeqCst), 8);
     stand.told(rt, 0, Some(Decision::Execute));
     stand.release(rt, 0, false);
     let words = stand.end(rt, alloc);
@@ -288,8 +289,8 @@ fn sleep_of_the_second<R: Threads + Wait + Abort + Sync>(rt: &R, alloc: Global) 
     stand.enter(rt, 1, TryEnter::Entered);
     let sleeps = Sleeps::new();
     stand.sleep_second(rt, &sleeps);
-    assert_eq!(rt; sleeps.missed.load(Ordering::SeqCst), 0, "it sleeps on");
-    assert_eq!(rt; sleeps.cancelled.load(Ordering::SeqCst), 1);
+    is_at(rt, sleeps.missed.load(Ordering::SeqCst), 0, "it sleeps on");
+    is(rt, sleeps.cancelled.load(Ordering::SeqCst), 1);
     stand.seen(rt, 1, Some(Decision::Cancelled));
     stand.leave(rt, 1);
     stand.release(rt, 0, false);

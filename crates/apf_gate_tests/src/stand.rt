@@ -4,6 +4,7 @@ ghost use Rattle.std.specs.Prelude.{◌≡◌, length, All};
 ghost use Rattle.apf_gate.specs.declared.record.State.TheVariants.{Fresh};
 ghost use Rattle.apf_gate.specs.Tokens.{pass_gate, desk_gate, station_gate};
 
+use crate::asserts::is;
 use crate::desks::StagedDesk;
 use crate::endings::Ended;
 use crate::requests::Request;
@@ -266,7 +267,7 @@ impl Stand {
     /// The Station reads this limit.
     pub fn looks<R: Abort>(&mut self, rt: &R, station: usize, limit: u32) {
         let level = self.look(rt, station);
-        assert_eq!(rt; level.limit(), limit);
+        is(rt, level.limit(), limit);
     }
 
     /// The Desk reads a closed level.
@@ -288,9 +289,9 @@ impl Stand {
     /// Asserts that the Station reads an open level, no seat of which is taken, and in which nobody waits.
     pub fn is_idle<R: Abort>(&mut self, rt: &R, station: usize) {
         let level = self.look(rt, station);
-        assert_eq!(rt; level.closed(), false);
-        assert_eq!(rt; level.waiters(), 0);
-        assert_eq!(rt; level.seats(), 0);
+        is(rt, level.closed(), false);
+        is(rt, level.waiters(), 0);
+        is(rt, level.seats(), 0);
     }
 
     fn try_set_limit(&mut self, station: usize, limit: u32) -> Option<TrySetLimit> {
@@ -311,12 +312,12 @@ impl Stand {
 impl Stand {
     /// The request tries to take its seats. It is answered so.
     pub fn take<R: Abort>(&mut self, rt: &R, request: usize, answer: TryTake) {
-        assert_eq!(rt; self.try_take(request), Some(answer));
+        is(rt, self.try_take(request), Some(answer));
     }
 
     /// The request asks for what others decide. It is answered so.
     pub fn ask<R: Abort>(&mut self, rt: &R, request: usize, answer: Option<Decision>) {
-        assert_eq!(rt; self.try_ask(request), Some(answer));
+        is(rt, self.try_ask(request), Some(answer));
     }
 
     /// The request writes its decision. It is answered so.
@@ -327,17 +328,17 @@ impl Stand {
         decision: Decision,
         answer: Decision,
     ) {
-        assert_eq!(rt; self.try_decide(request, decision), Some(answer));
+        is(rt, self.try_decide(request, decision), Some(answer));
     }
 
     /// The request gives its seats back. Says whether others waited. It is answered so.
     pub fn release<R: Abort>(&mut self, rt: &R, request: usize, answer: bool) {
-        assert_eq!(rt; self.try_release(request), Some(answer));
+        is(rt, self.try_release(request), Some(answer));
     }
 
     /// The Desk enters the request. It is answered so.
     pub fn enter<R: Abort>(&mut self, rt: &R, request: usize, answer: TryEnter) {
-        assert_eq!(rt; self.try_enter(request), Some(answer));
+        is(rt, self.try_enter(request), Some(answer));
     }
 
     /// The Desk refuses the request. It is answered so.
@@ -348,17 +349,17 @@ impl Stand {
         decision: Decision,
         answer: Decision,
     ) {
-        assert_eq!(rt; self.try_refuse(request, decision), Some(answer));
+        is(rt, self.try_refuse(request, decision), Some(answer));
     }
 
     /// The Desk grants the request. It is answered so.
     pub fn grant<R: Abort>(&mut self, rt: &R, request: u32, answer: TryGrant) {
-        assert_eq!(rt; self.try_grant(request), Some(answer));
+        is(rt, self.try_grant(request), Some(answer));
     }
 
     /// The Desk settles the request that it holds. It is answered so.
     pub fn settle<R: Abort>(&mut self, rt: &R, answer: Decision) {
-        assert_eq!(rt; self.try_settle(), Some(answer));
+        is(rt, self.try_settle(), Some(answer));
     }
 
     /// The Desk gives back the seats of the request that it lost.
@@ -373,31 +374,31 @@ impl Stand {
 
     /// The Station cancels the request. It is answered so.
     pub fn cancel<R: Abort>(&mut self, rt: &R, station: usize, request: u32, answer: Decision) {
-        assert_eq!(rt; self.try_cancel(station, request), Some(answer));
+        is(rt, self.try_cancel(station, request), Some(answer));
     }
 
     /// The Station closes the level. It is answered so.
     pub fn close<R: Abort>(&mut self, rt: &R, station: usize, answer: Close) {
-        assert_eq!(rt; self.try_close(station), Some(answer));
+        is(rt, self.try_close(station), Some(answer));
     }
 
     /// The Station tries to set the limit. It is answered so.
     pub fn set_limit<R: Abort>(&mut self, rt: &R, station: usize, limit: u32, answer: TrySetLimit) {
-        assert_eq!(rt; self.try_set_limit(station, limit), Some(answer));
+        is(rt, self.try_set_limit(station, limit), Some(answer));
     }
 
     /// The request reads its decision. It is answered so.
     pub fn told<R: Abort>(&mut self, rt: &R, request: usize, answer: Option<Decision>) {
-        assert_eq!(rt; self.try_told(request), answer);
+        is(rt, self.try_told(request), answer);
     }
 
     /// The Desk hears the request. It is answered so.
     pub fn hear<R: Abort>(&mut self, rt: &R, request: usize, answer: Option<Decision>) {
-        assert_eq!(rt; self.try_hear(request), answer);
+        is(rt, self.try_hear(request), answer);
     }
 
     /// The Desk reads the request's decision. It is answered so.
     pub fn seen<R: Abort>(&mut self, rt: &R, request: u32, answer: Option<Decision>) {
-        assert_eq!(rt; self.try_seen(request), answer);
+        is(rt, self.try_seen(request), answer);
     }
 }

@@ -2,10 +2,10 @@
 
 ghost use Rattle.std.specs.Prelude.{◌≡◌, ◌≤◌};
 ghost use Rattle.apf_words.specs.Limits.{max_limit};
-ghost use Rattle.apf_gate.specs.Tokens.{station_gate};
+ghost use Rattle.apf_gate.specs.Tokens.{desk_gate, station_gate};
 ghost use Rattle.apf_gate_tests.specs.Stages.{IsNamed};
 
-use apf_gate::{Cancel, Close, Gate, Read, Station, Ticket, TrySetLimit};
+use apf_gate::{Cancel, Close, Desk, Gate, Read, Station, Ticket, TrySetLimit};
 use apf_words::{Decision, LevelWord};
 use std::alloc::Global;
 
@@ -57,4 +57,14 @@ pub fn set_limit(gate: &Gate<Global>, station: &mut Station, limit: u32) -> TryS
     ensures { station_gate station.new ≡ gate.now }
 {
     gate.try_set_limit(station, limit)
+}
+
+/// Tells the Desk what it knows.
+pub fn tell(gate: &Gate<Global>, station: &mut Station, desk: &mut Desk)
+    requires own { station_gate station.old ≡ gate.now }
+    requires own_desk { desk_gate desk.old ≡ gate.now }
+    ensures own { station_gate station.new ≡ gate.now }
+    ensures own_desk { desk_gate desk.new ≡ gate.now }
+{
+    gate.hear_station(desk, station);
 }

@@ -3,6 +3,7 @@
 ghost use Rattle.std.specs.Prelude.{◌≡◌, length};
 ghost use Rattle.apf_life_session.specs.Openings.{level_of};
 
+use crate::asserts::is;
 use apf_gate::{Cancel, Ticket};
 use apf_life::{Level, Naming, Report};
 use apf_life_session::{Answer, Opening, Operator, Request, Session};
@@ -285,17 +286,23 @@ fn one_decision_each<R: Threads + Wait + Abort + Sync>(rt: &R, alloc: Global) ->
     let report = live(rt, alloc, &board);
     let (executed, cancelled) = all_alike(rt, &board);
     let counts = report.words.counts();
-    assert_eq!(rt; executed.saturating_add(cancelled), 100_000);
-    assert_eq!(rt; (counts.executed, counts.cancelled), (executed, cancelled));
-    assert_eq!(rt;
-        (counts.queue_full, counts.closed, counts.concurrency_limit),
-        (0, 0, 0)
+    is(rt, executed.saturating_add(cancelled), 100_000);
+    is(
+        rt,
+        (counts.executed, counts.cancelled),
+        (executed, cancelled),
     );
-    assert_eq!(rt; report.words.level().seats(), 0);
+    is(
+        rt,
+        (counts.queue_full, counts.closed, counts.concurrency_limit),
+        (0, 0, 0),
+    );
+    is(rt, report.words.level().seats(), 0);
     let stats = report.newest.stats;
-    assert_eq!(rt;
+    is(
+        rt,
         stats.entered,
-        stats.dispatched.saturating_add(stats.struck)
+        stats.dispatched.saturating_add(stats.struck),
     );
     let late = board.late.load(Ordering::SeqCst);
     late > 0 && cancelled > 0 && stats.dispatched > 0

@@ -4,6 +4,7 @@
 ghost use Rattle.std.specs.Prelude.{◌≡◌, ◌<◌, length};
 ghost use Rattle.apf_life_session.specs.Openings.{level_of};
 
+use crate::asserts::is;
 use crate::past::{HAND, LENGTH, Past, QUEUES};
 use apf_book::LifeEvent;
 use apf_flow::Dealer;
@@ -58,8 +59,8 @@ fn arrive<K: Naming, R: Wait + Abort>(
     };
     if session.slots[slot as usize].place() != Place::Free {
         let (answer, event) = session.arrive_with_event(rt, slot, ask);
-        assert_eq!(rt; answer, Answer::Wrong);
-        assert_eq!(rt; event, None);
+        is(rt, answer, Answer::Wrong);
+        is(rt, event, None);
         return;
     }
     let Ok(dealer) = Dealer::new(QUEUES, HAND) else {
@@ -121,7 +122,7 @@ fn cancel<K: Naming, R: Wait + Abort>(
             panic!(rt; "no ticket")
         };
         if ticket.slot() == slot && *ticket != present && session.level.knows(*ticket) {
-            assert_eq!(rt; session.cancel(rt, *ticket), Cancel::Other);
+            is(rt, session.cancel(rt, *ticket), Cancel::Other);
         }
     }
     read(rt, session, past, None);
@@ -139,13 +140,13 @@ fn read<K: Naming, R: Wait + Abort>(
     for _turn in 0..10 {
         let from = past.log.len() as u64;
         let copied = session.level.lock(rt).copy_events(from, &mut room);
-        assert_eq!(rt; copied.from, from);
+        is(rt, copied.from, from);
         for event in room.iter().take(copied.count) {
             past.happens(rt, *event);
         }
     }
     if let Some(event) = event {
-        assert_eq!(rt; past.log.get(before), Some(&past.event(rt, event)));
+        is(rt, past.log.get(before), Some(&past.event(rt, event)));
     }
 }
 
@@ -205,7 +206,7 @@ fn play<K: Naming, R: Wait + Abort>(
     for turn in 0..STEPS {
         step(rt, &mut session, past, &mut draw);
         if turn == 100 && seed % 3 == 0 {
-            assert_eq!(rt; session.close(), Close::First);
+            is(rt, session.close(), Close::First);
         }
     }
     drain(rt, &mut session, past);
@@ -233,22 +234,35 @@ fn run<R: Wait + Abort>(rt: &R, alloc: Global, seed: u32, past: &mut Past) -> Re
 // The report has the numbers that were told, each request is counted once, and the newest events are the log's.
 fn check<R: Abort>(rt: &R, report: &Report, past: &Past) {
     let counts = report.words.counts();
-    assert_eq!(rt; counts, past.told);
+    is(rt, counts, past.told);
     let sum = counts
         .executed
         .wrapping_add(counts.queue_full)
         .wrapping_add(counts.closed)
         .wrapping_add(counts.cancelled);
-    assert_eq!(rt; sum, past.tickets.len() as u64);
-    assert_eq!(rt;
+    is(rt, sum, past.tickets.len() as u64);
+    is(
+        rt,
         (report.words.level().seats(), report.words.level().waiters()),
-        (0, 0)
+        (0, 0),
     );
     let first = past.log.len().saturating_sub(10);
-    assert_eq!(rt; report.newest.from, first as u64);
-    assert_eq!(rt; report.newest.events.len(), past.log.len() - first);
+    is(rt, report.newest.from, first as u64);
+    is(rt, report.newest.events.len(), past.log.len() - first);
     for (place, event) in report.newest.events.iter().enumerate() {
-        assert_eq!(rt; past.log.get(first + place), Some(&past.event(rt, *event)));
+        is(
+            rt,
+            past.log.get(first + place),
+            Some(&past.event(rt, *event)),
+        );
+    }
+}
+
+// Asserts that many came too late, and that each kind of event came often.
+fn came_often<R: Abort>(rt: &R, closed: u64, kinds: [u32; 4]) {
+    assert!(rt; closed > 20, "{closed} came too late");
+    for kind in kinds {
+        assert!(rt; kind > 20, "{kind} of one kind of {kinds:?}");
     }
 }
 
@@ -275,8 +289,5 @@ fn the_history_of_all_requests_is_fair(rt: HostRuntime) {
             kinds[kind] = kinds[kind].wrapping_add(1);
         }
     }
-    assert!(&rt; closed > 20, "{closed} came too late");
-    for kind in kinds {
-        assert!(&rt; kind > 20, "{kind} of one kind of {kinds:?}");
-    }
+    came_often(&rt, closed, kinds);
 }

@@ -1,5 +1,7 @@
 //! The tests of a level for a server's whole life, by the public calls of `apf_life_session` and `apf_life` alone.
 //!
+//! `asserts`: assertions as calls.
+//!
 //! In one thread:
 //!
 //! - `rows`: worked calls over a few slots.
@@ -12,6 +14,8 @@
 //!   sleeps until it is decided.
 #![tactic(auto)]
 
+#[cfg(test)]
+mod asserts;
 #[cfg(test)]
 mod crowds;
 #[cfg(test)]

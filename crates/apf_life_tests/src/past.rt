@@ -1,5 +1,6 @@
 //! All that ever came to a level, and what the plain program says of it.
 
+use crate::asserts::is;
 use apf_book::LifeEvent;
 use apf_gate::{Counts, Ticket};
 use apf_model::Event;
@@ -114,6 +115,6 @@ impl Past {
             LENGTH,
             history,
         );
-        assert_eq!(rt; fair, Ok(true));
+        is(rt, fair, Ok(true));
     }
 }

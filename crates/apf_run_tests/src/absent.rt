@@ -1,5 +1,6 @@
 //! Commands and requests that name what is not there, and which no reader lets through.
 
+use crate::asserts::is;
 use crate::runs::Fault;
 use apf_run::{Command, Config, Request, Response, Running, Work, replay, run};
 use apf_words::MAX_LIMIT;
@@ -56,9 +57,9 @@ fn commands_of_nobody(rt: HostRuntime) -> Result<(), Fault> {
     let transcript = replay(&rt, rt.alloc(), &CONFIG, &[REQUEST; 2], &commands)?;
     let mut buffer = vec![in rt.alloc(); 0u8; whole.len()]?;
     let mut rest = buffer.as_mut_slice();
-    assert_eq!(rt; transcript.write(&mut rest), Ok(()));
-    assert_eq!(rt; rest.len(), 0);
-    assert_eq!(rt; buffer.as_slice(), whole.as_bytes());
+    is(&rt, transcript.write(&mut rest), Ok(()));
+    is(&rt, rest.len(), 0);
+    is(&rt, buffer.as_slice(), whole.as_bytes());
     Ok(())
 }
 
@@ -70,7 +71,7 @@ fn requests_that_name_nobody(rt: HostRuntime) -> Result<(), Fault> {
         request.cancels = Some(other);
     }
     let report = run(&rt, rt.alloc(), &CONFIG, &requests, 2, &Nothing)?;
-    assert_eq!(rt; report.counts.executed, 4);
-    assert_eq!(rt; report.counts.cancelled, 0);
+    is(&rt, report.counts.executed, 4);
+    is(&rt, report.counts.cancelled, 0);
     Ok(())
 }

@@ -1,5 +1,6 @@
 //! Whose work is called, and with how many units.
 
+use crate::asserts::is;
 use crate::runs::{Fault, run_text};
 use apf_run::{Running, Work};
 use std::sync::atomic::{AtomicU64, Ordering};
@@ -34,11 +35,11 @@ fn work_is_of_the_executed(rt: HostRuntime) -> Result<(), Fault> {
         numbers: AtomicU64::new(0),
     };
     let report = run_text(&rt, rt.alloc(), 1, text, 1, &counted)?;
-    assert_eq!(rt; report.counts.executed, 2);
-    assert_eq!(rt; report.counts.cancelled, 1);
-    assert_eq!(rt; report.counts.closed, 2);
-    assert_eq!(rt; counted.calls.load(Ordering::SeqCst), 2);
-    assert_eq!(rt; counted.units.load(Ordering::SeqCst), 75);
-    assert_eq!(rt; counted.numbers.load(Ordering::SeqCst), 3);
+    is(&rt, report.counts.executed, 2);
+    is(&rt, report.counts.cancelled, 1);
+    is(&rt, report.counts.closed, 2);
+    is(&rt, counted.calls.load(Ordering::SeqCst), 2);
+    is(&rt, counted.units.load(Ordering::SeqCst), 75);
+    is(&rt, counted.numbers.load(Ordering::SeqCst), 3);
     Ok(())
 }

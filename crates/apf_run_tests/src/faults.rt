@@ -2,6 +2,7 @@
 
 ghost use Rattle.std.specs.Prelude.{◌<◌};
 
+use crate::asserts::{is, is_at};
 use crate::runs::{Fault, run_text};
 use apf_run::{
     Config, GateFault, LevelFault, ReplayFault, Response, RunFault, Running, Work, replay, run,
@@ -37,8 +38,8 @@ fn faults_of_the_gate(rt: HostRuntime) {
             RunFault::NoMemory,
         ),
     ] {
-        assert_eq!(rt; ReplayFault::from(fault), replay);
-        assert_eq!(rt; RunFault::from(ReplayFault::from(fault)), run);
+        is(&rt, ReplayFault::from(fault), replay);
+        is(&rt, RunFault::from(ReplayFault::from(fault)), run);
     }
 }
 
@@ -51,11 +52,16 @@ impl Work for Nothing {
 // The same of the level. A hand of two can't be dealt of one queue.
 #[test]
 fn faults_of_the_level(rt: HostRuntime) -> Result<(), Fail> {
-    assert_eq!(rt;
+    is(
+        &rt,
         ReplayFault::from(LevelFault::NoMemory),
-        ReplayFault::NoMemory
+        ReplayFault::NoMemory,
     );
-    assert_eq!(rt; RunFault::from(LevelFault::NoMemory), RunFault::NoMemory);
+    is(
+        &rt,
+        RunFault::from(LevelFault::NoMemory),
+        RunFault::NoMemory,
+    );
     let config = Config {
         limit: 1,
         queues: 1,
@@ -66,11 +72,12 @@ fn faults_of_the_level(rt: HostRuntime) -> Result<(), Fail> {
     let Err(ReplayFault::Level(fault)) = replay(&rt, rt.alloc(), &config, &[], &[]) else {
         panic!(rt; "replay")
     };
-    assert_eq!(rt; fault.to_string(rt.alloc())?.as_str(), "hand too large");
-    assert_eq!(rt; RunFault::from(fault), RunFault::Level(fault));
-    assert_eq!(rt;
+    is(&rt, fault.to_string(rt.alloc())?.as_str(), "hand too large");
+    is(&rt, RunFault::from(fault), RunFault::Level(fault));
+    is(
+        &rt,
         run(&rt, rt.alloc(), &config, &[], 1, &Nothing).err(),
-        Some(RunFault::Level(fault))
+        Some(RunFault::Level(fault)),
     );
     Ok(())
 }
@@ -91,12 +98,12 @@ fn texts_of_faults(rt: HostRuntime) -> Result<(), Fail> {
             "too many requests or stations",
         ),
     ] {
-        assert_eq!(rt; fault.to_string(rt.alloc())?.as_str(), text);
+        is(&rt, fault.to_string(rt.alloc())?.as_str(), text);
     }
     let text = ReplayFault::Gate(GateFault::BadLimit).to_string(rt.alloc())?;
-    assert_eq!(rt; text.as_str(), "bad limit");
+    is(&rt, text.as_str(), "bad limit");
     let text = ReplayFault::NoMemory.to_string(rt.alloc())?;
-    assert_eq!(rt; text.as_str(), "out of memory");
+    is(&rt, text.as_str(), "out of memory");
     Ok(())
 }
 
@@ -110,12 +117,13 @@ fn fault_of<R: Wait + Threads + Sync>(rt: &R, alloc: Global, workers: u32) -> Op
 // Sixty-four workers are let in, and sixty-five are one too many for the gate.
 #[test]
 fn sixty_five_workers(rt: HostRuntime) {
-    assert_eq!(rt; fault_of(&rt, rt.alloc(), 64), None);
+    is(&rt, fault_of(&rt, rt.alloc(), 64), None);
     for workers in [65, 66, u32::MAX] {
-        assert_eq!(rt;
+        is_at(
+            &rt,
             fault_of(&rt, rt.alloc(), workers),
             Some(Fault::Run(RunFault::Gate(GateFault::TooMany))),
-            "{workers} workers"
+            workers,
         );
     }
 }

@@ -6,10 +6,13 @@
 //! - `meeting`, `counting`: runs by workers, with work that looks at the others. `orders`: what a worker does first.
 //! - `writing`: writers without room. `absent`: numbers of what is not there. `refused`: what is out of range.
 //! - `faults`: which fault of the gate and the level is told as which, and what the faults print.
+//! - `asserts`: assertions as calls.
 #![tactic(auto)]
 
 #[cfg(test)]
 mod absent;
+#[cfg(test)]
+mod asserts;
 #[cfg(test)]
 mod counting;
 #[cfg(test)]

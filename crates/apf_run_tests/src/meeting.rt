@@ -2,6 +2,7 @@
 
 ghost use Rattle.std.specs.Prelude.{◌<◌};
 
+use crate::asserts::is;
 use crate::runs::{Fault, run_text};
 use apf_run::{Running, Work};
 use std::alloc::{AllocError, Global};
@@ -94,12 +95,12 @@ fn meets<R: Abort + Wait + Threads + Sync>(
 {
     let meeting = Meeting::new(alloc, requests, workers)?;
     let report = run_text(rt, alloc, workers, text, workers, &meeting)?;
-    assert_eq!(rt; report.counts.executed, requests);
-    assert_eq!(rt; meeting.missed.load(Ordering::SeqCst), 0);
-    assert_eq!(rt; meeting.disordered.load(Ordering::SeqCst), 0);
-    assert_eq!(rt; meeting.calls.len(), requests as usize);
+    is(rt, report.counts.executed, requests);
+    is(rt, meeting.missed.load(Ordering::SeqCst), 0);
+    is(rt, meeting.disordered.load(Ordering::SeqCst), 0);
+    is(rt, meeting.calls.len(), requests as usize);
     for calls in meeting.calls.as_slice() {
-        assert_eq!(rt; calls.load(Ordering::SeqCst), 1);
+        is(rt, calls.load(Ordering::SeqCst), 1);
     }
     Ok(())
 }

@@ -3,6 +3,7 @@
 
 ghost use Rattle.std.specs.Prelude.{◌<◌};
 
+use crate::asserts::is;
 use crate::runs::{Fault, run_text};
 use apf_model::Event::{self, Dispatch, Enter, Strike};
 use apf_run::{Report, Running, Work};
@@ -91,12 +92,12 @@ struct Row<'a> {
 // Asserts that the requests are decided so, and, if the others entered in time, that this happened then. Says whether
 // they did.
 fn is_as<R: Abort>(rt: &R, row: Row<'_>, report: &Report) -> bool {
-    assert_eq!(rt; report.decisions.as_slice(), row.decisions);
+    is(rt, report.decisions.as_slice(), row.decisions);
     let log = report.log.as_slice();
     if log.get(..row.entries.len()) != Some(row.entries) {
         return false;
     }
-    assert_eq!(rt; log.get(row.entries.len()..), Some(row.rest));
+    is(rt, log.get(row.entries.len()..), Some(row.rest));
     true
 }
 

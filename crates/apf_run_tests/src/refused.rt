@@ -3,6 +3,7 @@
 
 ghost use Rattle.std.specs.Prelude.{◌<◌};
 
+use crate::asserts::is;
 use crate::runs::Fault;
 use apf_run::{
     Config, GateFault, LevelFault, Request, Response, RunFault, Running, Work, replay, run,
@@ -116,19 +117,22 @@ fn runs_in_range(rt: HostRuntime) {
         limit_response: Response::Reject,
         ..NOTHING
     };
-    assert_eq!(rt; ran(&rt, alloc, &CONFIG, &[], 1), Told::Executed(0));
-    assert_eq!(rt;
+    is(&rt, ran(&rt, alloc, &CONFIG, &[], 1), Told::Executed(0));
+    is(
+        &rt,
         ran(&rt, alloc, &CONFIG, &[REQUEST; 3], 64),
-        Told::Executed(3)
+        Told::Executed(3),
     );
-    assert_eq!(rt;
+    is(
+        &rt,
         ran(&rt, alloc, &no_queues, &[REQUEST; 3], 1),
-        Told::Executed(3)
+        Told::Executed(3),
     );
-    assert_eq!(rt; replayed(&rt, alloc, &CONFIG, &[]), Told::Replayed);
-    assert_eq!(rt;
+    is(&rt, replayed(&rt, alloc, &CONFIG, &[]), Told::Replayed);
+    is(
+        &rt,
         replayed(&rt, alloc, &no_queues, &[REQUEST; 3]),
-        Told::Replayed
+        Told::Replayed,
     );
 }
 
@@ -141,10 +145,10 @@ fn bad_limits(rt: HostRuntime) {
         limit: 10_001,
         ..CONFIG
     };
-    assert_eq!(rt; ran(&rt, alloc, &NOTHING, &[], 1), told);
-    assert_eq!(rt; ran(&rt, alloc, &over, &[WIDE], 65), told);
-    assert_eq!(rt; replayed(&rt, alloc, &NOTHING, &[]), told);
-    assert_eq!(rt; replayed(&rt, alloc, &over, &[WIDE]), told);
+    is(&rt, ran(&rt, alloc, &NOTHING, &[], 1), told);
+    is(&rt, ran(&rt, alloc, &over, &[WIDE], 65), told);
+    is(&rt, replayed(&rt, alloc, &NOTHING, &[]), told);
+    is(&rt, replayed(&rt, alloc, &over, &[WIDE]), told);
 }
 
 // The first bad width comes before too many workers, and before the settings of queues.
@@ -153,10 +157,10 @@ fn bad_widths(rt: HostRuntime) {
     let alloc = rt.alloc();
     let requests = [REQUEST, NARROW, WIDE];
     let told = Told::Gate(GateFault::BadWidth(1));
-    assert_eq!(rt; ran(&rt, alloc, &NO_HAND, &requests, 65), told);
-    assert_eq!(rt; replayed(&rt, alloc, &NO_HAND, &requests), told);
+    is(&rt, ran(&rt, alloc, &NO_HAND, &requests, 65), told);
+    is(&rt, replayed(&rt, alloc, &NO_HAND, &requests), told);
     let told = Told::Gate(GateFault::BadWidth(0));
-    assert_eq!(rt; ran(&rt, alloc, &CONFIG, &[WIDE], 1), told);
+    is(&rt, ran(&rt, alloc, &CONFIG, &[WIDE], 1), told);
 }
 
 // There are 64 workers and 10,000 requests at most, and one more comes before the settings of queues.
@@ -164,11 +168,15 @@ fn bad_widths(rt: HostRuntime) {
 fn too_many(rt: HostRuntime) -> Result<(), Fault> {
     let alloc = rt.alloc();
     let told = Told::Gate(GateFault::TooMany);
-    assert_eq!(rt; ran(&rt, alloc, &CONFIG, &[REQUEST; 3], 65), told);
-    assert_eq!(rt; ran(&rt, alloc, &NO_HAND, &[], u32::MAX), told);
+    is(&rt, ran(&rt, alloc, &CONFIG, &[REQUEST; 3], 65), told);
+    is(&rt, ran(&rt, alloc, &NO_HAND, &[], u32::MAX), told);
     let requests = vec![in alloc; REQUEST; 10_001]?;
-    assert_eq!(rt; ran(&rt, alloc, &NO_HAND, requests.as_slice(), 1), told);
-    assert_eq!(rt; replayed(&rt, alloc, &NO_HAND, requests.as_slice()), told);
+    is(&rt, ran(&rt, alloc, &NO_HAND, requests.as_slice(), 1), told);
+    is(
+        &rt,
+        replayed(&rt, alloc, &NO_HAND, requests.as_slice()),
+        told,
+    );
     Ok(())
 }
 
@@ -185,15 +193,17 @@ fn bad_queues(rt: HostRuntime) {
         queue_length_limit: 0,
         ..CONFIG
     };
-    assert_eq!(rt; ran(&rt, alloc, &NO_HAND, &[], 64), Told::Dealer(1));
-    assert_eq!(rt;
+    is(&rt, ran(&rt, alloc, &NO_HAND, &[], 64), Told::Dealer(1));
+    is(
+        &rt,
         ran(&rt, alloc, &large_hand, &[REQUEST], 1),
-        Told::Dealer(2)
+        Told::Dealer(2),
     );
-    assert_eq!(rt;
+    is(
+        &rt,
         replayed(&rt, alloc, &large_hand, &[REQUEST]),
-        Told::Dealer(2)
+        Told::Dealer(2),
     );
-    assert_eq!(rt; ran(&rt, alloc, &no_room, &[], 1), Told::Queues(1));
-    assert_eq!(rt; replayed(&rt, alloc, &no_room, &[]), Told::Queues(1));
+    is(&rt, ran(&rt, alloc, &no_room, &[], 1), Told::Queues(1));
+    is(&rt, replayed(&rt, alloc, &no_room, &[]), Told::Queues(1));
 }

@@ -1,5 +1,6 @@
 //! Writers that have no room at one place or another.
 
+use crate::asserts::{is, is_at};
 use crate::runs::{Fault, run_text};
 use apf_run::{
     Config, Report, Response, Running, Transcript, Work, WriteFault, read_requests, read_script,
@@ -44,10 +45,10 @@ fn fails_at_each_place<R: Abort>(
         let (mut rest, _beyond) = buffer.as_mut_slice().split_at_mut(room);
         let answer = text.write(&mut rest);
         let left = rest.len();
-        assert_eq!(rt; answer.is_ok(), room == whole.len(), "room for {room}");
+        is_at(rt, answer.is_ok(), room == whole.len(), room);
         assert!(rt; left == 0 || room < whole.len(), "room for {room}");
         let written = room.saturating_sub(left);
-        assert_eq!(rt; buffer.as_slice().get(..written), whole.get(..written));
+        is(rt, buffer.as_slice().get(..written), whole.get(..written));
     }
     Ok(())
 }

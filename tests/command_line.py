@@ -42,7 +42,7 @@ for words, line in [
     tally.check(" ".join(words), run(program, words), (2, b"", line))
 
 # help that is asked for goes to standard output, and has a line for each command, argument and file
-COMMANDS = ["  hash ", "  deal ", "  replay ", "  run ", "  services ", "  waits ", "  explain ", "  serve ", "  simulate ", "  timeline ", "  compare ", "  fates ", "  requests ", "  picture ", "  hands ", "  trace ", "  objects ", "  match "]
+COMMANDS = ["  hash ", "  deal ", "  replay ", "  run ", "  services ", "  waits ", "  explain ", "  serve ", "  simulate ", "  timeline ", "  compare ", "  fates ", "  requests ", "  picture ", "  hands ", "  trace ", "  objects ", "  match ", "  cluster "]
 COMMANDS += ["apf hash workload-low alice", "  2 "]
 DEAL = ["<DECK>", "<HAND>", "<HASH>", "printf %u 0x", "not positive", "hand too large", "deck too large", "too much entropy"]
 SCRIPT = ["<CONFIG>", "<REQUESTS>", "<SCRIPT>"]
@@ -81,6 +81,8 @@ for words, says in [
     (["trace", "--help"], ["<AUDITLOG>", "<SCHEMA>", "user.username", "requestReceivedTimestamp", "microseconds", "4096 bytes"]),
     (["objects", "--help"], ["<OBJECTS>", "--seats <N>", "1000000", "600", "kubectl", "v1beta2", "dangling"]),
     (["match", "--help"], ["<OBJECTS>", "--user <NAME>", "--groups <NAMES>", "--path <PATH>", "--log <LOG>", "system:authenticated", "impersonatedUser"]),
+    (["cluster", "--help"], ["<OBJECTS> <AUDITLOG> <PATIENCE>", "--set <KEY=VALUE>", "--against <OBJECTS>", "LEVEL.shares=60", "schema:NAME.rate=2x", "user:NAME.rate=2x", "server.seats=800", "a>b", "~"]),
+    (["help", "cluster"], ["--flows <N>", "--no-lending", "--level <NAME>", "--trace", "--json"]),
     (["hands", "--help"], LEVEL + ["flow H hand Q1 Q2 .. of SCHEMA DISTINGUISHER", "shares Q with N flows", "covered by H", "covered by N more"]),
     (["explain", "--help"], SCRIPT + ["prints one line", "prints nothing", "apf: config fault 5: bad value of limit"]),
     (["waits", "--help"], SCRIPT + ["request R queue Q ahead A most M all T", "twice the widest"]),

@@ -88,7 +88,7 @@ serving, _ = build_serving()
 PAGES = {
     "README.md": (3, program),
     os.path.join("docs", "GUIDE.md"): (18, program),
-    os.path.join("docs", "CLUSTER.md"): (5, program),
+    os.path.join("docs", "CLUSTER.md"): (24, program),
     os.path.join("docs", "LIBRARY.md"): (0, program),
     os.path.join("docs", "SPEED.md"): (0, program),
     os.path.join("docs", "FORMATS.md"): (59, program),
@@ -193,7 +193,7 @@ for example in sorted(os.listdir(os.path.join(TOP, "examples"))):
     if os.path.isdir(os.path.join(TOP, "examples", example)):
         names = sorted(it for it in os.listdir(os.path.join(TOP, "examples", example)) if it != "__pycache__")
         level = ["config.json", "requests.json", "script.txt"]
-        wanted = {"audit": ["audit.log", "trace.jsonl"], "cluster": ["objects.json"], "gateway": ["backend.py"], "noisy-client": ["config.json", "picture.svg", *level[1:], "trace.jsonl"]}.get(example, level)
+        wanted = {"audit": ["audit.log", "trace.jsonl"], "cluster": ["log.py", "objects.json"], "gateway": ["backend.py"], "noisy-client": ["config.json", "picture.svg", *level[1:], "trace.jsonl"]}.get(example, level)
         tally.check(f"examples/{example}", names, wanted)
         shown = [it for it in PAGES if f"examples/{example}/{wanted[0]}" in open(os.path.join(TOP, it)).read()]
         tally.check(f"examples/{example} is shown", len(shown) > 0, True)

@@ -185,13 +185,13 @@ def check_late():
         tally.check(f"{name}: simulate", told, foreseen)
     config = files("config", json.dumps(level))
     too_late = {
-        "one place more": ([*lines[: WINDOW + 1], first], 0),
-        "one line more, in the order of the latest": (lines[::-1], 10),
+        "one place more": [*lines[: WINDOW + 1], first],
+        "one line more, in the order of the latest": lines[::-1],
     }
     each = [["simulate", config], ["compare", config, config], ["fates", config], ["timeline", config], ["picture", config], ["hands", config]]
-    for name, (lines, arrival) in too_late.items():
+    for name, lines in too_late.items():
         trace = files("trace", "".join(lines))
-        said = f"apf: trace fault 13 at line {WINDOW + 2}: this request arrives at {arrival}, and more than {WINDOW} requests of lines before it arrive later\n"
+        said = f"apf: trace fault 13 at line {WINDOW + 2}: arrives more than {WINDOW} requests late\n"
         for words in each if lines[-1] == first else each[:1]:
             patience = [] if words[0] == "hands" else ["0"]
             tally.check(f"{name}: {words[0]}", run(program, [*words, trace, *patience]), (1, b"", said.encode()))

@@ -8,8 +8,7 @@ import sys
 
 HERE = os.path.dirname(os.path.abspath(__file__))
 sys.path.insert(0, os.path.join(HERE, "lib"))
-from audits import NOON, time_text
-from clusters import EVERYTHING, Clusters, level_object, level_of, notes_of, objects_in, objects_of, parts_of, read_by, table, whole_cluster
+from clusters import EVERYTHING, Clusters, level_object, level_of, log_of, notes_of, objects_in, objects_of, parts_of, read_by, table, whole_cluster
 from harness import Files, Tally, build, run
 from lending import PERIOD, Claim, division, limit_of, observed_of, smoothed_of, stretches_of, way_of
 
@@ -167,19 +166,11 @@ for number in range(10):
 # ---- clusters worked by hand, of 10 seats: two levels have 5 each, where nothing else is said
 
 
-def event(second, run_for, user):
-    """An event of an audit log: its times are in seconds."""
-    begin, end = (time_text(NOON + round(it * SECOND)) for it in (second, second + run_for))
-    who = {"username": user, "groups": ["system:authenticated"]}
-    return {"stage": "ResponseComplete", "verb": "list", "user": who, "requestReceivedTimestamp": begin, "stageTimestamp": end}
-
-
 def worked(name, levels, coming, lines, patience="0", words=()):
     """What is printed of these levels. Each takes the requests of the user of its name: in `coming` stand how many, when they come, and how long they run."""
     schemas = [{"name": it["name"], "level": it["name"], "by": "user", "rules": [([("User", it["name"])], *EVERYTHING)]} for it in levels]
     objects, *_ = whole_cluster([*levels, level_of("catch-all", 0)], schemas)
-    log = "".join(f"{json.dumps(event(second, run_for, user))}\n" * count for user, count, second, run_for in coming)
-    status, out, err = run(program, ["cluster", files("objects.json", json.dumps(objects)), files("audit.log", log), patience, "--seats", "10", *words])
+    status, out, err = run(program, ["cluster", files("objects.json", json.dumps(objects)), files("audit.log", log_of(coming)), patience, "--seats", "10", *words])
     tally.check(name, (status, out.decode().split("\n")[1 : 1 + len(lines)], err), (0, lines, b""))
 
 

@@ -2,12 +2,13 @@
 
 import json
 import os
+import subprocess
 import sys
 from concurrent.futures import ThreadPoolExecutor
 
 sys.path.insert(0, os.path.join(os.path.dirname(os.path.abspath(__file__)), "lib"))
 from harness import Files, Memory, Tally, build
-from in_c import compiled, level_of, run_of, through
+from in_c import compiled, level_of, run_of
 from simulation import words_of
 
 tally = Tally()
@@ -22,11 +23,16 @@ model, makes = compiled(files, "simulate"), compiled(files, "long")
 print(f"seed {seed}")
 
 
-def told_of(*commands):
-    """What the last of these prints, and the statuses of all."""
-    processes = through(commands)
-    said = processes[-1].stdout.read().decode()
-    return said, [it.wait() for it in processes]
+def through_both(makes_it, runs, words):
+    """The processes that make a trace, and read it: the simulation in C of these runs, and the program with these words. It is made once for both."""
+    judging = subprocess.Popen([model, runs], stdin=subprocess.PIPE, stdout=subprocess.PIPE)
+    copy = judging.stdin.fileno()
+    making = subprocess.Popen([*makes_it, str(copy)], stdin=subprocess.DEVNULL, stdout=subprocess.PIPE, pass_fds=[copy])
+    running = subprocess.Popen([program, *words], stdin=making.stdout, stdout=subprocess.PIPE)
+    # the two pipes are theirs
+    judging.stdin.close()
+    making.stdout.close()
+    return judging, making, running
 
 
 # by what requests are charged where nobody says it
@@ -64,16 +70,17 @@ def looked_at(number):
     what is printed of it."""
     name, config, patience, charge, flows, seats, cost = LONG[number]
     makes_it = [makes, "trace", *map(str, (seed + number, MANY, flows, seats, cost))]
-    want, judged = told_of(makes_it, [model, files(f"runs{number}", run_of(config, patience, charge, "/dev/stdin"))])
-    making, running = through([makes_it, [program, "simulate", files(f"config{number}", json.dumps(config)), "-", *words_of(patience, charge)]])
+    runs = files(f"runs{number}", run_of(config, patience, charge, "/dev/stdin"))
+    words = ["simulate", files(f"config{number}", json.dumps(config)), "-", *words_of(patience, charge)]
+    judging, making, running = through_both(makes_it, runs, words)
     memory = Memory(running)
-    got = running.stdout.read().decode()
+    got, want = running.stdout.read().decode(), judging.stdout.read().decode()
     statuses = making.wait(), running.wait()
     lines, foreseen = got.splitlines(), want.splitlines()[:-1]
     apart = [it for it in zip(lines, foreseen) if it[0] != it[1]]
     others = [line for line in foreseen if line.startswith("others ")]
     found = [
-        ("the statuses of the simulation in C", judged, [0, 0]),
+        ("the status of the simulation in C", judging.wait(), 0),
         ("the statuses", statuses, (0, 0)),
         (f"the lines of {MANY} requests", (len(lines), apart[:3]), (len(foreseen), [])),
         ("percentiles of many waits", "~" in want or MANY < 1_000_000, True),

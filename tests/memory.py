@@ -50,6 +50,14 @@ log = files(
 # objects with rules of each kind, and with a fault
 cluster = os.path.join(HERE, "..", "examples", "cluster", "objects.json")
 spoilt = files("spoilt", '{"kind":"FlowSchema","apiVersion":"flowcontrol.apiserver.k8s.io/v1","metadata":{"name":"a"},"spec":5}')
+few = files(
+    "few",
+    '{"kind":"List","items":[{"apiVersion":"flowcontrol.apiserver.k8s.io/v1","kind":"PriorityLevelConfiguration","metadata":{"name":"low"},'
+    '"spec":{"type":"Limited","limited":{"limitResponse":{"type":"Queue"}}}},'
+    '{"apiVersion":"flowcontrol.apiserver.k8s.io/v1","kind":"FlowSchema","metadata":{"name":"all"},"spec":{"priorityLevelConfiguration":{"name":"low"},'
+    '"distinguisherMethod":{"type":"ByUser"},"rules":[{"subjects":[{"kind":"User","user":{"name":"*"}}],"nonResourceRules":[{"verbs":["*"],"nonResourceURLs":["*"]}]}]}}]}',
+)
+changes = ["--set", "low.seats=1", "--set=schema:all.by=none", "--set", "schema:all.precedence=+1", "--set", "user:b.rate=9x", "--set", "schema:all.rate=2x"]
 who = ["--user", "alice", "--groups", "system:authenticated,dev", "--verb", "list"]
 # an object on lines of its own, and an event, each in the place of a trace; and a trace in the place of objects
 printed = files("printed", '{\n  "kind": "FlowSchema",\n  "metadata": {"name": "a"}\n}\n')
@@ -90,6 +98,12 @@ for words, status in (
     (["objects", spoilt], 1),
     (["match", cluster, *who, "--resource", "pods"], 0),
     (["match", cluster, "--log", log], 0),
+    (["cluster", few, log, "5us"], 0),
+    (["cluster", few, log, "5us", *changes], 0),
+    (["cluster", few, log, "5us", "--against", few, "--json", "--set", "low.response=Reject"], 0),
+    (["cluster", few, log, "5us", "--set", "low.share=5"], 2),
+    (["cluster", few, log, "5us", "--set", "high.seats=5"], 2),
+    (["cluster", few, log, "5us", "--against", spoilt], 1),
     (["run", roomy, fit, "3"], 0),
     (["run", roomy, fit, "3", "--rounds", "3"], 0),
     *([(["serve", tight], 0), (["serve", tight, "--slots", "0"], 2), (["serve", uneven], 1), (["serve", "missing"], 1)] if is_built else []),

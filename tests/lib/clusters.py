@@ -1,10 +1,10 @@
 """Clusters and their logs for tests: drawn ones, and what `apf cluster` says of them by the independent matcher, one independent level for each level of a
-cluster, and the independent lending of seats."""
+cluster, and the independent lending of seats. A second cluster stands beside the first where requests are read by the schemas of both."""
 
 import json
 
 from audit import Choice, Flow, namespace_of, read_of, text_at
-from audits import NOON, Logs
+from audits import NOON, Logs, time_text
 from jsontext import json_text
 from lending import MOST, Lender, bounds_of, limit_of
 from level import hash_of
@@ -37,7 +37,7 @@ def level_object(level):
     return {"apiVersion": API, "kind": "PriorityLevelConfiguration", "metadata": {"name": level["name"]}, "spec": spec}
 
 
-def schema_object(schema, precedence):
+def schema_object(schema):
     kinds = {"User": lambda name: {"kind": "User", "user": {"name": name}}, "Group": lambda name: {"kind": "Group", "group": {"name": name}}}
     rules = [
         {
@@ -50,7 +50,7 @@ def schema_object(schema, precedence):
         }
         for subjects, resources, paths in schema["rules"]
     ]
-    spec = {"priorityLevelConfiguration": {"name": schema["level"]}, "matchingPrecedence": precedence, "rules": rules}
+    spec = {"priorityLevelConfiguration": {"name": schema["level"]}, "matchingPrecedence": schema["precedence"], "rules": rules}
     if schema["by"] != "nothing":
         spec["distinguisherMethod"] = {"type": {"user": "ByUser", "namespace": "ByNamespace"}[schema["by"]]}
     return {"apiVersion": API, "kind": "FlowSchema", "metadata": {"name": schema["name"]}, "spec": spec}
@@ -61,15 +61,29 @@ EVERYTHING = [(["*"], ["*"], ["*"], True, ["*"])], [(["*"], ["*"])]
 
 
 def whole_cluster(levels, schemas, order=lambda schemas: None):
-    """The objects, the levels with the server's own, and the schemas with the server's own behind them."""
-    given = [schema_object(it, 2 + place) for place, it in enumerate(schemas)]
+    """The objects, the levels with the server's own, and the schemas between the server's own, with their precedences."""
+    schemas = [{"precedence": 2 + place, **it} for place, it in enumerate(schemas)]
+    given = [*map(schema_object, schemas)]
     order(given)
     objects = {"kind": "List", "items": [*map(level_object, levels), *given]}
     names = [it["name"] for it in levels]
     own = [level_of("exempt", 0, exempt=True), level_of("catch-all", 5)]
     # nobody is in the group that the server's own schema `exempt` takes; `catch-all` takes what no other does
-    last = {"name": "catch-all", "level": "catch-all", "by": "user", "rules": [([("Group", "system:authenticated")], *EVERYTHING)]}
-    return objects, [*levels, *(it for it in own if it["name"] not in names)], [*schemas, last]
+    first = {"name": "exempt", "level": "exempt", "precedence": 1, "by": "nothing", "rules": [([("Group", "system:masters")], *EVERYTHING)]}
+    groups = [("Group", "system:authenticated"), ("Group", "system:unauthenticated")]
+    last = {"name": "catch-all", "level": "catch-all", "precedence": 10_000, "by": "user", "rules": [(groups, *EVERYTHING)]}
+    return objects, [*levels, *(it for it in own if it["name"] not in names)], [first, *schemas, last]
+
+
+def log_of(coming):
+    """A log in which so many requests of a user come at a time, and run so long, both in seconds."""
+    said = []
+    for user, count, second, run_for in coming:
+        begin, end = (time_text(NOON + round(it * 1_000_000)) for it in (second, second + run_for))
+        who = {"username": user, "groups": ["system:authenticated"]}
+        event = {"stage": "ResponseComplete", "verb": "list", "user": who, "requestReceivedTimestamp": begin, "stageTimestamp": end}
+        said.append(f"{json.dumps(event)}\n" * count)
+    return "".join(said)
 
 
 class Clusters:
@@ -212,22 +226,40 @@ class Part:
         return self.figures(range(len(self.run.trace)))
 
 
-def read_by(schemas, content):
-    """What is read of a log, each request with its schema and its distinguisher."""
+def flow_by(schemas, event, asked):
+    """The schema of a request and its distinguisher, or None where its namespace is asked for and is no name."""
+    schema = schemas[schema_of(schemas, asked)]
+    if schema["by"] == "namespace" and namespace_of(event) is None:
+        return None
+    return Flow(schema["name"], distinguisher_of(schema, asked))
+
+
+def read_by(schemas, content, others=None):
+    """What is read of a log, each request with its schema and its distinguisher; and with its user and the same by these others, if there are some."""
 
     def by(event, user):
         asked = asked_of(event, user)
-        schema = schemas[schema_of(schemas, asked)]
-        if schema["by"] == "namespace" and namespace_of(event) is None:
-            return None
-        return Flow(schema["name"], distinguisher_of(schema, asked))
+        flow = flow_by(schemas, event, asked)
+        if flow is not None and others is not None:
+            flow.user, flow.beside = user, flow_by(others, event, asked)
+        return None if flow is None or (others is not None and flow.beside is None) else flow
 
     return read_of(content, Choice(by=by))
 
 
-def parts_of(levels, schemas, read, seats, patience, lends):
-    """What the levels come to by what was read of a log, each with its nominal limit all along, or with seats that are lent; and who lends them."""
-    start = read.requests[0][0] if read.requests else 0
+def beside(read, scenario):
+    """What was read of a log as it comes to a second cluster: each request as often as is said of its user and its schema."""
+    requests = []
+    for received, run_for, flow, away in read.requests:
+        requests += [(received, run_for, flow.beside, away)] * scenario.rate_of(flow.user, flow.beside.schema)
+    return read._replace(requests=requests)
+
+
+def parts_of(levels, schemas, read, seats, patience, lends, start=None):
+    """What the levels come to by what was read of a log, each with its nominal limit all along, or with seats that are lent; and who lends them. The times
+    are those since the first request of the log."""
+    if start is None:
+        start = read.requests[0][0] if read.requests else 0
     of = {it["name"]: it["level"] for it in schemas}
     parts = []
     for level in levels:
@@ -286,21 +318,48 @@ def limits_text(limits):
     return f"{limits[0]}" if len({*limits}) == 1 else f"{min(limits)}..{max(limits)}"
 
 
+LEVEL_NAMES = "level nominal limits requests executed rejected timed-out log-429s used median p99 longest"
+FLOW_NAMES = "flow-of requests executed rejected timed-out median p99 longest schema distinguisher"
+
+
+def end_of(parts):
+    """When all was over."""
+    return max((it.run.end() for it in parts), default=0)
+
+
+def level_columns(part, end):
+    """What stands behind the name of a level, where all was over at this time."""
+    figures = part.whole()
+    possible = 0 if part.level["exempt"] else limit_of(part.nominal) * end
+    used = f"{100 * figures['seatTime'] // possible}%" if possible else "-"
+    return [*map(str, [part.nominal, limits_text(part.limits), *counts(figures), part.turned_away]), used, *times(figures)]
+
+
+def flow_columns(figures):
+    """What stands between the name of a flow's level and its own names."""
+    return [*map(str, counts(figures)), *times(figures)]
+
+
+def unsaid(parts):
+    """The lines of what an audit log does not say, where the log's server turned so many requests away."""
+    away = sum(it.turned_away for it in parts)
+    said = ["how many seats a request takes (here one)", "how long a request runs where the server does other work (here as long as in the log)"]
+    if away:
+        said.append(f"how long {away} requests that were turned away would run (here the median of those of their distinguisher)")
+    said.append("which clients would try again (here those whose second requests are in the log)")
+    said.append("requests that the audit policy leaves out")
+    return ["", *(f"not in the log: {it}" for it in said)]
+
+
 def table(parts, flows):
-    end = max((it.run.end() for it in parts), default=0)
-    said = ["level nominal limits requests executed rejected timed-out log-429s used median p99 longest"]
-    for part in parts:
-        figures = part.whole()
-        possible = 0 if part.level["exempt"] else limit_of(part.nominal) * end
-        used = f"{100 * figures['seatTime'] // possible}%" if possible else "-"
-        front = [name_text(part.level["name"]), part.nominal, limits_text(part.limits)]
-        said.append(" ".join(map(str, [*front, *counts(figures), part.turned_away, used, *times(figures)])))
+    end = end_of(parts)
+    said = [LEVEL_NAMES, *(" ".join([name_text(it.level["name"]), *level_columns(it, end)]) for it in parts)]
     told = told_flows(parts)[:flows]
     if told:
-        said += ["", "flow-of requests executed rejected timed-out median p99 longest schema distinguisher"]
+        said += ["", FLOW_NAMES]
     for part, figures, names in told:
-        said.append(" ".join(map(str, [name_text(part.level["name"]), *counts(figures), *times(figures), *map(json_text, names)])))
-    return "".join(f"{it}\n" for it in said)
+        said.append(" ".join([name_text(part.level["name"]), *flow_columns(figures), *map(json_text, names)]))
+    return "".join(f"{it}\n" for it in [*said, *unsaid(parts)])
 
 
 def as_json(figures):
@@ -309,20 +368,98 @@ def as_json(figures):
     return {**kept, "exact": len(waits) <= 10_000, "median": nearest_rank(waits, 50), "p99": nearest_rank(waits, 99), "longest": figures["longest"]}
 
 
+def level_members(part):
+    limits = {"leastLimit": min(part.limits), "greatestLimit": max(part.limits)} if part.limits else {}
+    return {"level": part.level["name"], "nominal": part.nominal, **limits, "log429s": part.turned_away, **as_json(part.whole())}
+
+
+def flow_members(part, figures, names):
+    return {"flowOf": part.level["name"], "schema": names[0], "distinguisher": names[1], **as_json(figures)}
+
+
 def objects_of(parts, flows):
     """Each object as its keys and values, in their order."""
-    said = []
-    for part in parts:
-        limits = {"leastLimit": min(part.limits), "greatestLimit": max(part.limits)} if part.limits else {}
-        said.append({"level": part.level["name"], "nominal": part.nominal, **limits, "log429s": part.turned_away, **as_json(part.whole())})
-    for part, figures, names in told_flows(parts)[:flows]:
-        said.append({"flowOf": part.level["name"], "schema": names[0], "distinguisher": names[1], **as_json(figures)})
+    said = [*map(level_members, parts), *(flow_members(*it) for it in told_flows(parts)[:flows])]
     return [[*it.items()] for it in said]
 
 
 def objects_in(out):
     """The same, as a program printed them."""
     return [[*json.loads(line).items()] for line in out.splitlines()]
+
+
+# ---- what is printed of two clusters
+
+
+def of_both(one, other, columns):
+    """The columns of both clusters, where one of them may lack what they tell of."""
+    lacking = ["-"] * columns
+    return [it if it == too else f"{it}>{too}" for it, too in zip(one or lacking, other or lacking)]
+
+
+class Told:
+    """A flow of a cluster: its place, its part, its figures and its names."""
+
+    def __init__(self, place, part, figures, names):
+        self.place, self.part, self.figures, self.names = place, part, figures, names
+        self.longest, self.lost = figures["longest"], figures["rejected"] + figures["timedOut"]
+        self.is_told = bool(figures["waited"] or self.lost)
+
+
+def flows_in(parts):
+    """All flows of a cluster, by their names."""
+    found = {}
+    for place, part in enumerate(parts):
+        for number, members in enumerate(flows_of(part.run.trace).values()):
+            names = part.run.trace[members[0]]["names"]
+            found[names] = Told((place, number), part, part.figures(members), names)
+    return found
+
+
+def change_of(one, other, key):
+    return abs((getattr(one, key) if one else 0) - (getattr(other, key) if other else 0))
+
+
+def told_pairs(first, second):
+    """The flows of both clusters that waited or were turned away on one of them, those first that change most. None is in the place of one that is not
+    there."""
+    ones, others = flows_in(first), flows_in(second)
+    found = []
+    for names in {**ones, **others}:
+        one, other = ones.get(names), others.get(names)
+        if any(it and it.is_told for it in (one, other)):
+            places = [(it is None, it.place if it else ()) for it in (one, other)]
+            found.append(((-change_of(one, other, "longest"), -change_of(one, other, "lost"), *places), one, other))
+    return [it[1:] for it in sorted(found, key=lambda it: it[0])]
+
+
+def level_pairs(first, second):
+    """The parts of the levels of both clusters, in the order in which they are told."""
+    ones, others = ({it.level["name"]: it for it in parts} for parts in (first, second))
+    return [(ones.get(name), others.get(name)) for name in {**ones, **others}]
+
+
+def both_tables(first, second, flows):
+    said, ends = [LEVEL_NAMES], (end_of(first), end_of(second))
+    for pair in level_pairs(first, second):
+        name = name_text(next(it for it in pair if it).level["name"])
+        said.append(" ".join([name, *of_both(*(it and level_columns(it, end) for it, end in zip(pair, ends)), 11)]))
+    told = told_pairs(first, second)[:flows]
+    if told:
+        said += ["", FLOW_NAMES]
+    for pair in told:
+        levels = dict.fromkeys(name_text(it.part.level["name"]) for it in pair if it)
+        columns = of_both(*(it and flow_columns(it.figures) for it in pair), 7)
+        said.append(" ".join([">".join(levels), *columns, *map(json_text, next(it for it in pair if it).names)]))
+    return "".join(f"{it}\n" for it in [*said, *unsaid(first)])
+
+
+def both_objects(first, second, flows):
+    """Each object, with its keys in their order."""
+    said = [{"cluster": number, **level_members(it)} for number, parts in enumerate((first, second), 1) for it in parts]
+    for pair in told_pairs(first, second)[:flows]:
+        said += [{"cluster": number, **flow_members(it.part, it.figures, it.names)} for number, it in enumerate(pair, 1) if it]
+    return said
 
 
 def notes_of(read):

@@ -1,5 +1,6 @@
 """What is written in C in this folder: long traces and logs, a simulation of traces, and a client that keeps the clock."""
 
+import functools
 import os
 import shutil
 import subprocess
@@ -8,8 +9,9 @@ import sys
 HERE = os.path.dirname(os.path.abspath(__file__))
 
 
+@functools.lru_cache(maxsize=None)
 def compiled(files, name):
-    """The path of the program, compiled. Where there is no compiler the test ends."""
+    """The path of the program, compiled once. Where there is no compiler the test ends."""
     if not shutil.which("cc"):
         print("not tried: all of it, as cc is missing")
         print("0 passed, 0 failed, 1 skipped")

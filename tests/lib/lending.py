@@ -1,7 +1,8 @@
 """How a server lends seats among its levels: an independent computation, written from the rules, with fractions, and slow on purpose. Nothing is kept of
 what requests ask for: it is made anew at the end of each period, from the times at which they came and were over.
 
-A level is a dict: `exempt`, `shares`, `lendable` and `borrowing`, both in per cent, the second of them None where there is no limit.
+A level is a dict: `exempt`, `shares`, `lendable` and `borrowing`, both in per cent, the second of them None where there is no limit. It may
+have a nominal limit that is `fixed`, in seats.
 """
 
 import collections
@@ -27,9 +28,11 @@ def half_up(number):
 
 
 def bounds_of(level, levels, seats):
-    """The limits of a level of these, where the server has so many seats."""
+    """The limits of a level of these, where the server has so many seats. Its nominal limit may be fixed."""
     total = sum(it["shares"] for it in levels)
     nominal = math.ceil(Fraction(seats * level["shares"], total)) if total else 0
+    if level.get("fixed") is not None:
+        nominal = level["fixed"]
     borrowed = seats if level["borrowing"] is None else half_up(Fraction(nominal * level["borrowing"], 100))
     return Bounds(nominal - half_up(Fraction(nominal * level["lendable"], 100)), nominal, nominal + borrowed)
 
@@ -139,8 +142,10 @@ class Lender:
     of them had, none of a level that is exempt."""
 
     def __init__(self, levels, runs, seats):
-        self.levels, self.runs, self.seats = levels, runs, seats
+        self.levels, self.runs = levels, runs
         self.bounds = [bounds_of(it, levels, seats) for it in levels]
+        # what is divided
+        self.seats = sum(it.nominal for it in self.bounds)
         self.limits = [[] if level["exempt"] else [limit_of(own.nominal)] for level, own in zip(levels, self.bounds)]
         self.smoothed = [0] * len(levels)
         # at which times the limits were set, and what each level claimed

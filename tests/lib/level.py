@@ -67,12 +67,10 @@ class Level:
 
     def dispatch(self):
         # where no seat is free nobody fits
-        while self.seats() < self.limit and (busy := [queue for queue, waiting in enumerate(self.queues) if waiting]):
-            finish = {queue: self.starts[queue] + self.cost(self.queues[queue][0]) for queue in busy}
-            least = min(finish.values())
+        while (busy := [queue for queue, waiting in enumerate(self.queues) if waiting]) and self.seats() < self.limit:
             # of those that finish first, the next one behind the last that was served
-            round_from = [queue for queue in busy if queue > self.last] + [queue for queue in busy if queue <= self.last]
-            chosen = next(queue for queue in round_from if finish[queue] == least)
+            behind, count = self.last + 1, len(self.queues)
+            chosen = min([(self.starts[queue] + self.cost(self.queues[queue][0]), (queue - behind) % count, queue) for queue in busy])[2]
             request = self.queues[chosen][0]
             if not self.fits(request):
                 return

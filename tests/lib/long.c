@@ -1,9 +1,10 @@
 /* Long traces and audit logs, made while they are read. A test tool.
  *
- *   long trace SEED COUNT FLOWS SEATS COST
+ *   long trace SEED COUNT FLOWS SEATS COST [COPY]
  *
  * A trace of this many requests. Times when more come than this many seats can serve take turns with quieter ones. One line in 50 comes up to 4,000 places
- * late. Half of the requests are of five of the flows. The line COST, from 1, has a cost; with 0 no line has.
+ * late. Half of the requests are of five of the flows. The line COST, from 1, has a cost; with 0 no line has. The
+ * trace is written to the file of the number COPY too.
  *
  *   long log SEED COUNT SUMS
  *
@@ -23,16 +24,22 @@ static uint64_t state;
 /* What is printed, which goes out where there is no room for one piece more. */
 static char out[1 << 16];
 static size_t filled;
-static int is_broken;
+static int is_broken, copy = -1;
 
-static void flush(void) {
+static void write_whole(int file) {
     for (size_t done = 0; done < filled && !is_broken;) {
-        ssize_t more = write(1, out + done, filled - done);
+        ssize_t more = write(file, out + done, filled - done);
         if (more > 0)
             done += more;
         else if (more == 0 || errno != EINTR)
             is_broken = 1;
     }
+}
+
+static void flush(void) {
+    write_whole(1);
+    if (copy >= 0)
+        write_whole(copy);
     filled = 0;
 }
 
@@ -185,7 +192,9 @@ int main(int words, char **word) {
     if (words < 5)
         return 2;
     state = 0x9e3779b97f4a7c15 ^ strtoull(word[2], NULL, 10);
-    if (!strcmp(word[1], "trace") && words == 7)
+    if (words == 8)
+        copy = atoi(word[7]);
+    if (!strcmp(word[1], "trace") && (words == 7 || words == 8))
         trace(atoll(word[3]), strtoull(word[4], NULL, 10), strtoull(word[5], NULL, 10), atoll(word[6]));
     else if (!strcmp(word[1], "log"))
         audit_log(strtoull(word[3], NULL, 10), word[4]);

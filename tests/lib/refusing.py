@@ -1,5 +1,5 @@
 """A program without one of its allocations, or some in a row, for each of them in turn: it is loaded once, by tests/lib/refuse.c, and runs in a child for
-each."""
+each. A run of one thread goes on from one to the next, and a child of it goes on without each."""
 
 import os
 import select
@@ -32,6 +32,9 @@ class Refusing:
         self.answers, answers = os.pipe()
         environment = {**os.environ, "LD_PRELOAD": self.shim, "APF_REFUSED": self.marker, "APF_RUNS": f"{asks} {answers}", "APF_TOGETHER": str(self.together)}
         environment["APF_LEAST"] = str(self.least)
+        # the commands of workers have many threads, and what stands in front of a program begins it itself
+        if self.words[1] != "run" and not os.environ.get("APF_PROGRAM"):
+            environment["APF_FORKS"] = "1"
         with open(self.content, "rb") as content:
             self.process = subprocess.Popen(self.words, stdin=content, pass_fds=(asks, answers), env=environment, cwd=self.cwd, start_new_session=True)
         os.close(asks)

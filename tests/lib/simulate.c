@@ -7,7 +7,7 @@
  * seats where one of the lines has a cost that are read before the first request is handed out, and by time elsewhere. The lines of TRACE are as
  * {"hash":1,"width":2,"cost":3,"arrivesAt":4,"runsFor":5}, where width and cost may be absent. Behind what a run prints stands its status.
  *
- * A trace is held as a whole and sorted, each wait is kept, and all queues are looked at for each dispatch. */
+ * A trace is held as a whole and sorted, each wait is kept, and all queues in which somebody waits are looked at for each dispatch. */
 #define _GNU_SOURCE
 #include <stdint.h>
 #include <stdio.h>
@@ -52,6 +52,8 @@ static int by;
 static struct request *all;
 static uint32_t count, room;
 static struct queue queues[MOST_QUEUES];
+/* a bit for each queue in which somebody waits */
+static uint64_t busy[MOST_QUEUES / 64];
 static uint32_t last_served;
 static service virtual_time;
 static int64_t seats;
@@ -320,6 +322,8 @@ static void leave(struct queue *queue) {
     queue->first = all[queue->first].next;
     queue->length--;
     queue->cost = queue->length ? all[queue->first].cost : 0;
+    if (!queue->length)
+        busy[(queue - queues) / 64] &= ~(1ull << (queue - queues) % 64);
     waiting--;
 }
 
@@ -328,12 +332,16 @@ static void dispatch(int64_t now) {
     while (waiting && seats < limit) {
         struct queue *chosen = NULL;
         service best = 0;
-        for (uint32_t step = 0, place = last_served; step < queue_count; step++) {
-            place = place + 1 < queue_count ? place + 1 : 0;
-            struct queue *queue = &queues[place];
-            if (queue->length && (!chosen || queue->start + queue->cost < best)) {
-                chosen = queue;
-                best = queue->start + queue->cost;
+        /* first those behind the last that was served, and then the others, from the first one to that one */
+        uint64_t behind = ~1ull << last_served % 64;
+        for (uint32_t step = 0, words = (queue_count + 63) / 64, word = last_served / 64; step <= words; step++, word = word + 1 < words ? word + 1 : 0) {
+            uint64_t bits = busy[word] & (step == 0 ? behind : step == words ? ~behind : ~0ull);
+            for (; bits; bits &= bits - 1) {
+                struct queue *queue = &queues[64 * word + __builtin_ctzll(bits)];
+                if (!chosen || queue->start + queue->cost < best) {
+                    chosen = queue;
+                    best = queue->start + queue->cost;
+                }
             }
         }
         uint32_t number = chosen->first;
@@ -423,8 +431,10 @@ static void arrive(uint32_t number, int64_t now) {
             queue->start = virtual_time;
         *(queue->length ? &all[queue->last].next : &queue->first) = number;
         queue->last = number;
-        if (!queue->length++)
+        if (!queue->length++) {
             queue->cost = it->cost;
+            busy[it->queue / 64] |= 1ull << it->queue % 64;
+        }
         it->state = WAITING;
         waiting++;
         entered++;
@@ -436,6 +446,7 @@ static void arrive(uint32_t number, int64_t now) {
 
 static void begin(void) {
     memset(queues, 0, sizeof queues);
+    memset(busy, 0, sizeof busy);
     memset(sets, 0, sizeof sets);
     memset(places, 0, sizeof places);
     memset(of_state, 0, sizeof of_state);

@@ -68,15 +68,16 @@ class Run:
 
     def go_on(self, until=None):
         """Carries out what is due, to its end or until a call would come at this time, or later. Behind a time may stand a kind of call."""
-        while (due := self.due()) and (until is None or min(due) < until):
-            self.carry_out(*min(due))
+        while (first := min(self.due(), default=None)) and (until is None or first < until):
+            self.carry_out(*first)
 
     def due(self):
         """What is due, as far as it is known now. A call may make more due at once: the finish of a request that runs for no time."""
-        finishes = [(self.started[it] + self.trace[it]["runsFor"], FINISH, it) for it in self.level.running]
-        waiting = [it for queue in self.level.queues for it in queue] if self.patience else []
-        cancels = [(self.trace[it]["arrivesAt"] + self.patience, CANCEL, it) for it in waiting]
-        return finishes + cancels + [(self.trace[it]["arrivesAt"], ARRIVE, it) for it in self.coming[:1]]
+        trace, started, patience = self.trace, self.started, self.patience
+        due = [(started[it] + trace[it]["runsFor"], FINISH, it) for it in self.level.running]
+        if patience:
+            due += [(trace[it]["arrivesAt"] + patience, CANCEL, it) for queue in self.level.queues if queue for it in queue]
+        return due + [(trace[it]["arrivesAt"], ARRIVE, it) for it in self.coming[:1]]
 
     def cost(self, request):
         """The cost of a request that arrives now: that of its line, or of its flow by time, or its width."""

@@ -1,0 +1,68 @@
+#!/usr/bin/env python3
+"""Prints an audit log of two minutes of a busy cluster: 100,000 events of nodes, controllers, people and the accounts of 40 teams.
+
+From the thirtieth second to the ninetieth the account `importer` of the namespace `batch` lists far more than its level can serve, and its server turned a
+part of that away. A server writes an event when the request has ended, so a long one stands late.
+
+usage: log.py [EVENTS]
+"""
+
+import json
+import random
+import sys
+from heapq import heappop, heappush
+
+count = int(sys.argv[1]) if len(sys.argv) > 1 else 100_000
+draw, write = random.Random(1040).random, sys.stdout.write
+LEASE, PODS = {"resource": "leases", "apiGroup": "coordination.k8s.io", "apiVersion": "v1"}, {"resource": "pods", "apiVersion": "v1"}
+
+
+def account(namespace, name):
+    groups = ["system:serviceaccounts", f"system:serviceaccounts:{namespace}", "system:authenticated"]
+    return {"username": f"system:serviceaccount:{namespace}:{name}", "groups": groups}
+
+
+def known(name, *groups):
+    return {"username": name, "groups": [*groups, "system:authenticated"]}
+
+
+def request(second):
+    """Who asks at this time, for what, how long that runs, and whether the server turned it away."""
+    kind, pick, long = draw(), int(40 * draw()), draw()
+    if 30 <= second < 90 and kind < 0.42:
+        return account("batch", "importer"), "list", {**PODS, "namespace": "batch"}, 1 + 2 * long, draw() < 0.5
+    if kind < 0.50:
+        return known(f"system:node:node-{pick}", "system:nodes"), "update", {**LEASE, "namespace": "kube-node-lease"}, 0.01 * long, False
+    if kind < 0.60:
+        return known(f"system:node:node-{pick}", "system:nodes"), "get", {**PODS, "namespace": f"team-{pick}"}, 0.02 * long, False
+    if kind < 0.66:
+        return known("system:kube-controller-manager"), "patch", {**PODS, "namespace": f"team-{pick}"}, 0.05 * long, False
+    if kind < 0.70:
+        return account("kube-system", "namespace-controller"), "list", {**PODS, "namespace": f"team-{pick}"}, 0.1 * long, False
+    if kind < 0.72:
+        return known("system:kube-controller-manager"), "update", {**LEASE, "namespace": "kube-system"}, 0.01 * long, False
+    if kind < 0.75:
+        return {"username": "system:anonymous", "groups": ["system:unauthenticated"]}, "get", None, 0.001 * long, False
+    if kind < 0.80:
+        return known(f"user-{pick}"), "get", {**PODS, "namespace": f"team-{pick}"}, 2 * long**4, False
+    return account(f"team-{pick}", "app"), "list", {**PODS, "namespace": f"team-{pick}"}, 0.4 * long, False
+
+
+def time_text(micros):
+    return f"2026-11-25T12:{micros // 60_000_000:02}:{micros // 1_000_000 % 60:02}.{micros % 1_000_000:06}Z"
+
+
+now, ending = 0, []
+for number in range(count):
+    now += int(2_400 * draw())
+    user, verb, target, runs, away = request(now / 1_000_000)
+    end = now + int(1_000_000 * (0 if away else runs))
+    event = {"kind": "Event", "apiVersion": "audit.k8s.io/v1", "level": "Metadata", "auditID": f"{number:08x}", "stage": "ResponseComplete"}
+    event |= {"requestURI": "/api/v1" if target else "/healthz", "verb": verb, "user": user}
+    event |= {"objectRef": target} if target else {}
+    event |= {"responseStatus": {"code": 429 if away else 200}, "requestReceivedTimestamp": time_text(now), "stageTimestamp": time_text(end)}
+    heappush(ending, (end, number, json.dumps(event, separators=(",", ":")) + "\n"))
+    while ending and ending[0][0] <= now:
+        write(heappop(ending)[2])
+for _, _, line in sorted(ending):
+    write(line)

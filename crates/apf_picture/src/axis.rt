@@ -220,7 +220,7 @@ fn write_labels<W: Write>(out: &mut W, from: u64, end: u64, step: u64, y: u64) -
 
 /// Writes the axis of the stretch of a run from this time on, of this length, with lines this many pixels long.
 #[tactic(auto, unfolding(crate::specs::Parts::axis_text))]
-pub(crate) fn write_axis<W: Write>(
+pub fn write_axis<W: Write>(
     out: &mut W,
     from: u64,
     end: u64,

@@ -42,6 +42,10 @@ mod timeline;
 mod totals;
 mod words;
 
+pub use axis::write_axis;
 pub use laws::every_name_is_escaped;
+pub use names::write_character;
 pub use picture::Picture;
+pub use scale::{Unit, scaled, step};
 pub use scene::{Outcome, Scene};
+pub use words::{write_counted, write_tenths, write_time};

@@ -39,8 +39,8 @@ pub(crate) fn is_marked(character: char) -> bool
     )
 }
 
-// Writes a character. The mark is U+FFFD.
-fn write_character<W: Write>(out: &mut W, character: char) -> io::Result<()>
+/// Writes a character as XML has it. The mark is U+FFFD.
+pub fn write_character<W: Write>(out: &mut W, character: char) -> io::Result<()>
     ensures { OnOk result (Appends (W.contents out.old) (W.contents out.new) (character_text character)) }
 {
     match character {

@@ -7,7 +7,7 @@ ghost use Rattle.apf_picture.specs.Scales.{scaled_of, IsStep};
 pub(crate) const COLUMNS: u64 = 880;
 
 /// Where a value lies on a scale of this size, on which the whole is at the end. What is more than the whole is there, too.
-pub(crate) fn scaled(value: u64, whole: u64, size: u64) -> u64
+pub fn scaled(value: u64, whole: u64, size: u64) -> u64
     ensures place { result ≡ scaled_of value whole size }
     ensures within { result ≤ size }
 {
@@ -19,7 +19,7 @@ pub(crate) fn scaled(value: u64, whole: u64, size: u64) -> u64
 
 /// A unit of time.
 #[derive(Clone, Copy)]
-pub(crate) enum Unit {
+pub enum Unit {
     Microseconds,
     Milliseconds,
     Seconds,
@@ -32,7 +32,7 @@ impl Unit {
     ghost use Rattle.apf_picture.specs.Scales.{unit_of, unit_by, unit_length, unit_name};
 
     /// The longest unit of which the time has four at least. Microseconds, if it has four of none.
-    pub(crate) fn of(time: u64) -> Unit
+    pub fn of(time: u64) -> Unit
         ensures { result ≡ unit_of time }
     {
         Unit::longest(time / 4)
@@ -53,7 +53,7 @@ impl Unit {
     }
 
     /// In microseconds.
-    pub(crate) fn length(self) -> u64
+    pub fn length(self) -> u64
         ensures { result ≡ unit_length self }
     {
         match self {
@@ -93,7 +93,7 @@ fn tenth(time: u64) -> u64
 }
 
 /// The distance of the axis' marks: 1, 2 or 5 times a power of ten of units, and the least one with eleven marks at most.
-pub(crate) fn step(end: u64, unit: u64) -> u64
+pub fn step(end: u64, unit: u64) -> u64
     requires { 0 < unit × unit ≤ 86400000000 }
     ensures step { IsStep end unit result }
     ensures some { 0 < result }

@@ -9,7 +9,7 @@ use std::io;
 use std::io::Write;
 
 /// Writes a number and a noun, in the plural where the number is not 1.
-pub(crate) fn write_counted<W: Write>(out: &mut W, number: u64, noun: &str) -> io::Result<()>
+pub fn write_counted<W: Write>(out: &mut W, number: u64, noun: &str) -> io::Result<()>
     ensures { OnOk result (Appends (W.contents out.old) (W.contents out.new) (counted_text number noun.now)) }
 {
     if number == 1 {
@@ -20,12 +20,7 @@ pub(crate) fn write_counted<W: Write>(out: &mut W, number: u64, noun: &str) -> i
 
 /// Writes a number of a unit that has this many microseconds, with one digit after the point.
 #[tactic(auto, unfolding(crate::specs::Words::tenths_text))]
-pub(crate) fn write_tenths<W: Write>(
-    out: &mut W,
-    time: u64,
-    unit: u64,
-    name: &str,
-) -> io::Result<()>
+pub fn write_tenths<W: Write>(out: &mut W, time: u64, unit: u64, name: &str) -> io::Result<()>
     requires { 10 ≤ unit }
     ensures { OnOk result (Appends (W.contents out.old) (W.contents out.new) (tenths_text time unit name.now)) }
 {
@@ -49,7 +44,7 @@ pub(crate) fn write_two<W: Write>(
 }
 
 /// Writes a time of this many microseconds: with one digit after the point, or in two units.
-pub(crate) fn write_time<W: Write>(out: &mut W, time: u64) -> io::Result<()>
+pub fn write_time<W: Write>(out: &mut W, time: u64) -> io::Result<()>
     ensures { OnOk result (Appends (W.contents out.old) (W.contents out.new) (time_text time)) }
 {
     let seconds = time / 1_000_000;

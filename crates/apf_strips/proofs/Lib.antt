@@ -1,0 +1,4 @@
+pub mod Changes
+pub mod Overlaps
+pub mod Sums
+pub mod Wholes

@@ -1,0 +1,4 @@
+pub mod Limits
+pub mod Series
+pub mod Spans
+pub mod Strips

@@ -4,8 +4,8 @@ use Rattle.std.specs.Prelude.{codes, decimal, nat_lt, if◌then◌else◌}
 use Rattle.std.proofs.lemmas.Fmt.{length-decimal-le}
 use Rattle.apf_flows.specs.Json.{escape_by, escapes_from, escapes_of, letter_of, more_of, obeyed_by, shown_by, json_text}
 use Rattle.apf_times.specs.Limits.{max_arrival}
-use Rattle.apf_audit.specs.AuditEvent.{IsTakenInRange, max_name}
-use Rattle.apf_audit.specs.TraceText.{member_text, times_text, line_text}
+use Rattle.apf_audit.specs.AuditEvent.{event, IsTakenInRange, max_name}
+use Rattle.apf_audit.specs.TraceText.{member_text, times_text, width_text, line_text}
 use Rattle.apf_audit.specs.declared.event.Taken.{Taken}
 
 by_test : (x y b : ℕ) (t : Bool) → length (if t then codes "\\u00" ++ x ∷ y ∷ [] else b ∷ []) ≤ 6
@@ -54,16 +54,23 @@ times_length arrives_at runs_for early short =
     let second : length (decimal runs_for) ≤ 11 = length-decimal-le 11 runs_for (lit≤ tt) short (omega arith) in
     simp length-append (omega arith)
 
+width_length : (width : ℕ) → width < 10 ^ 5 → length (width_text width) ≤ 14
+unfolding width_text
+width_length width few = go (nat_lt 1 width)
+  where
+    go : (b : Bool) → length (if b then codes ",\"width\":" ++ decimal width else []) ≤ 14
+    go true =
+        let digits : length (decimal width) ≤ 5 = length-decimal-le 5 width (lit≤ tt) few (omega arith) in
+        simp length-append (omega arith)
+    go false = lit≤ tt
+
 -- a line of a trace
-pub line_length : (schema : List ℕ) (request : Taken) (arrives_at : ℕ) → length schema ≤ max_name → IsTakenInRange request → arrives_at ≤ max_arrival → length (line_text schema request arrives_at) ≤ 65537
+pub line_length : (schema : List ℕ) (request : Taken) (arrives_at : ℕ) → length schema ≤ max_name → IsTakenInRange request → arrives_at ≤ max_arrival → length (line_text schema (event request) arrives_at) ≤ 65537
 unfolding line_text
 line_length schema request arrives_at short ranges early =
     let first = member_length (codes "{\"schema\":") schema in
     let second = member_length (codes ",\"distinguisher\":") (string_bytes request.distinguisher) in
     let times = times_length arrives_at request.runs_for (omega (arith, early)) (omega (arith, ranges.run)) in
-    omega (
-      arith,
-      ranges.name,
-      length-append (member_text (codes "{\"schema\":") schema ++ member_text (codes ",\"distinguisher\":") (string_bytes request.distinguisher)) (times_text arrives_at request.runs_for),
-      length-append (member_text (codes "{\"schema\":") schema) (member_text (codes ",\"distinguisher\":") (string_bytes request.distinguisher)),
-    )
+    let width = width_length request.width (omega (arith, ranges.width.1)) in
+    let name = ranges.name in
+    simp length-append (omega arith)

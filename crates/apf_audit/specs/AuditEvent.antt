@@ -6,6 +6,7 @@ use Rattle.serde_json.specs.Find.{get, as_str}
 use Rattle.apf_files.specs.FirstFault.{◌>>=◌, or_fault}
 use Rattle.apf_files.specs.JsonFile.{text_at, whole_of}
 use Rattle.apf_times.specs.Limits.{max_run}
+use Rattle.apf_words.specs.Limits.{max_width}
 use Rattle.apf_objects.specs.Schemas.{schema_view}
 use Rattle.apf_objects.specs.declared.schema.Schema.{Schema as FlowSchema}
 use Rattle.apf_objects.specs.declared.schema.Distinguisher.{Distinguisher}
@@ -28,6 +29,10 @@ use Rattle.apf_audit.specs.declared.fault.AuditFault.TheVariants.{NotEvent, BadU
 abbrev pub max_name : ℕ
 max_name = 4096
 
+-- an id that is kept has at most this many bytes
+abbrev pub max_id : ℕ
+max_id = 64
+
 -- what a request is by the schemas of a second cluster
 pub record BesideSaid : Type 0 where
   -- the name of whose request it is
@@ -45,9 +50,13 @@ beside_said beside = record { user = string_bytes beside.user; schema = beside.s
 -- was turned away, and the bytes of its flow's name
 pub record Event : Type 0 where
   pub line : ℕ
+  -- the id by which the server names it, where one is kept
+  pub audit_id : Option (List ℕ)
   pub received : ℕ
   pub turned_away : Bool
   pub runs_for : ℕ
+  -- how many seats it takes
+  pub width : ℕ
   -- the place of its schema, where a schema makes a flow
   pub schema : Option ℕ
   pub flow : List ℕ
@@ -58,9 +67,11 @@ pub record Event : Type 0 where
 abbrev pub event : Taken → Event
 event taken = record {
   line = taken.line;
+  audit_id = option_map string_bytes taken.audit_id;
   received = taken.received;
   turned_away = taken.turned_away;
   runs_for = taken.runs_for;
+  width = taken.width;
   schema = taken.schema;
   flow = string_bytes taken.distinguisher;
   beside = option_map beside_said taken.beside;
@@ -91,9 +102,13 @@ taken_by None verb subresource = None
 unfoldable pub is_taken : Data → Option Bool
 is_taken d = taken_by (text_at (codes "stage") d) (text_at (codes "verb") d) (text_within (codes "objectRef") (codes "subresource") d)
 
--- the text, if it is short enough for a line of a trace
-abbrev pub short : List ℕ → Option (List ℕ)
-short name = if nat_le (length name) max_name then Some name else None
+-- the text, if it has no more bytes than this
+abbrev pub short : ℕ → List ℕ → Option (List ℕ)
+short most text = if nat_le (length text) most then Some text else None
+
+-- the id by which the server names the request: the text at `auditID`, if it has at most 64 bytes
+unfoldable pub id_of : Data → Option (List ℕ)
+id_of d = option_and_then (short max_id) (text_at (codes "auditID") d)
 
 -- the name of whose request it is: of the user who is impersonated, if the event has one
 abbrev pub name_by : Data → Option Data → Option (List ℕ)
@@ -102,7 +117,7 @@ name_by d (Some impersonated) = text_at (codes "username") impersonated
 
 -- the name of the user, where a trace can have it
 unfoldable pub user_of : Data → Option (List ℕ)
-user_of d = option_and_then short (name_by d (get (codes "impersonatedUser") d))
+user_of d = option_and_then (short max_name) (name_by d (get (codes "impersonatedUser") d))
 
 -- what stands where an event has the name of its user, who is impersonated if it has such a one
 abbrev pub name_found : Data → Option Data → Option Data
@@ -116,7 +131,7 @@ is_unnamed d = is_none (name_found d (get (codes "impersonatedUser") d))
 -- the namespace of an object that has one
 abbrev pub namespace_by : Option Data → Option (List ℕ)
 namespace_by None = Some []
-namespace_by (Some d) = option_and_then short (as_str d)
+namespace_by (Some d) = option_and_then (short max_name) (as_str d)
 
 -- the namespace, where a trace can have it; without one it is the empty text
 unfoldable pub namespace_of : Data → Option (List ℕ)
@@ -187,15 +202,18 @@ run_by false line received d = do
 unfoldable pub run_at : ℕ → ℕ → Data → Result ℕ AuditFault
 run_at line received d = run_by (was_turned_away d) line received d
 
--- the same with what else is taken of it
+-- what is taken of an event of this schema and flow that was received at this time, or its first fault. It takes one seat, as an audit log
+-- does not say how many
 unfoldable pub ran_at : ℕ → ℕ → Option ℕ → List ℕ → Option BesideSaid → Data → Result Event AuditFault
 ran_at line received schema flow beside d = do
   runs_for ← run_at line received d
   Ok (record {
     line = line;
+    audit_id = id_of d;
     received = received;
     turned_away = was_turned_away d;
     runs_for = runs_for;
+    width = 1;
     schema = schema;
     flow = flow;
     beside = beside;
@@ -259,9 +277,15 @@ pub record IsBesideInRange (beside : Beside) : Type 0 where
   pub user : length (string_bytes beside.user) ≤ max_name
   pub name : length (string_bytes beside.distinguisher) ≤ max_name
 
--- the run and the names are such that a trace can have them
+-- the id is short
+abbrev pub IsIdInRange : Taken → Type 0
+IsIdInRange taken = IfSome taken.audit_id (λ id. length (string_bytes id) ≤ max_id)
+
+-- the run, the width and the names are such that a trace can have them, and the id is short
 pub record IsTakenInRange (taken : Taken) : Type 0 where
+  pub id : IsIdInRange taken
   pub run : taken.runs_for ≤ max_run
+  pub width : (1 ≤ taken.width) × (taken.width ≤ max_width)
   pub name : length (string_bytes taken.distinguisher) ≤ max_name
   pub beside : IfSome taken.beside IsBesideInRange
 

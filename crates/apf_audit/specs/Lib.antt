@@ -2,6 +2,7 @@ pub mod AuditFaults
 pub mod Times
 pub mod Choice
 pub mod AuditEvent
+pub mod Joining
 pub mod Arrivals
 pub mod AuditLog
 pub mod TraceText

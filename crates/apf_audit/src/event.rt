@@ -18,6 +18,12 @@ use std::alloc::Global;
 /// The most bytes of the name of a user or a namespace: such a name fits a line of a trace, whatever has to be escaped.
 pub const MAX_NAME: usize = 4096;
 
+/// The most bytes of an id that is kept. A server gives ids of 36 bytes.
+pub const MAX_ID: usize = 64;
+
+// The seats of a request: an audit log does not say how many.
+const WIDTH: u32 = 1;
+
 const QUEUE_WAIT: &str = "apiserver.latency.k8s.io/apf-queue-wait";
 
 /// What a request is by the schemas of a second cluster.
@@ -36,12 +42,16 @@ pub struct Beside {
 pub struct Taken {
     /// The line of its event, counted from 1.
     pub line: u64,
+    /// The event's `auditID`, where that is a text of at most 64 bytes. A server names the request by it in its own log too.
+    pub audit_id: Option<String>,
     /// When the server received it, in microseconds from 1970 on.
     pub received: u64,
     /// Whether the server turned it away, so that it did not run.
     pub turned_away: bool,
     /// How long it ran once it had its seats, in microseconds, 0 to 10,000,000,000; 0 if it was turned away.
     pub runs_for: u64,
+    /// How many seats it takes, 1 to 20,000: 1, as an audit log does not say it, until a line of the server's own log does.
+    pub width: u32,
     /// The place of its schema, where a schema makes a flow.
     pub schema: Option<usize>,
     /// The name of its flow: of the user who made the request, or the namespace; or the empty text where nothing makes a flow within
@@ -108,15 +118,24 @@ fn name_of(value: &Value) -> Option<&str>
     }
 }
 
-// The name, if it is short enough for a line of a trace.
-fn short(name: &str) -> Option<&str>
-    ensures value { option_map (λ text. text.now) result ≡ spec.short name.now }
-    ensures short { IfSome result (λ name. length name.now ≤ spec.max_name) }
+// The text, if it has no more bytes than this.
+fn short(most: usize, text: &str) -> Option<&str>
+    ensures value { option_map (λ text. text.now) result ≡ spec.short most text.now }
+    ensures short { IfSome result (λ text. length text.now ≤ most) }
 {
-    if name.len() > MAX_NAME {
+    if text.len() > most {
         return None;
     }
-    Some(name)
+    Some(text)
+}
+
+// The id by which the server names the request, if it is one that is kept.
+#[tactic(auto, unfolding(crate::specs::AuditEvent::id_of))]
+fn id_of(value: &Value) -> Option<&str>
+    ensures value { option_map (λ text. text.now) result ≡ spec.id_of (view value.now) }
+    ensures short { IfSome result (λ id. length id.now ≤ spec.max_id) }
+{
+    short(MAX_ID, text_at(value, "auditID")?)
 }
 
 // The value that stands where the event has the name of its user, if there is one.
@@ -143,7 +162,7 @@ fn user_of(value: &Value) -> Option<&str>
     ensures value { option_map (λ text. text.now) result ≡ spec.user_of (view value.now) }
     ensures short { IfSome result (λ user. length user.now ≤ spec.max_name) }
 {
-    short(name_of(value)?)
+    short(MAX_NAME, name_of(value)?)
 }
 
 // The namespace, where a trace can have it. Without one it is the empty text.
@@ -156,7 +175,7 @@ fn namespace_of(value: &Value) -> Option<&str>
         .get("objectRef")
         .and_then(|object| object.get("namespace"))
     {
-        Some(namespace) => short(namespace.as_str()?),
+        Some(namespace) => short(MAX_NAME, namespace.as_str()?),
         None => Some(""),
     }
 }
@@ -214,6 +233,17 @@ fn owned(alloc: Global, text: &str) -> Result<String, AuditFault>
     match String::from_str(alloc, text) {
         Ok(string) => Ok(string),
         Err(_) => Err(AuditFault::NoMemory),
+    }
+}
+
+// A text of its own that is the same, where there is one.
+fn owned_if(alloc: Global, text: Option<&str>) -> Result<Option<String>, AuditFault>
+    ensures ok { IfOk result (λ string. option_map string_bytes string ≡ option_map (λ text. text.now) text.entry) }
+    ensures err { IfErr result (λ fault. fault ≡ AuditFault.NoMemory) }
+{
+    match text {
+        Some(text) => Ok(Some(owned(alloc, text)?)),
+        None => Ok(None),
     }
 }
 
@@ -333,11 +363,14 @@ fn ran_at(
 {
     let runs_for = run_at(value, line, received)?;
     let distinguisher = owned(alloc, flow)?;
+    let audit_id = owned_if(alloc, id_of(value))?;
     Ok(Taken {
         line,
+        audit_id,
         received,
         turned_away: was_turned_away(value),
         runs_for,
+        width: WIDTH,
         schema,
         distinguisher,
         beside,

@@ -5,7 +5,7 @@ ghost use Rattle.apf_times.specs.Limits.{max_arrival, max_run};
 ghost use Rattle.apf_times.specs.Waits.{max_exact};
 ghost use Rattle.apf_traces.specs.TraceFile.{max_bytes};
 ghost use Rattle.apf_audit.specs.declared.event.Taken.{Taken};
-ghost use Rattle.apf_audit.specs.AuditEvent.{Event, IsTakenInRange, max_name};
+ghost use Rattle.apf_audit.specs.AuditEvent.{Event, event, IsTakenInRange, max_name};
 ghost use Rattle.apf_audit.specs.Estimates.{run_read};
 ghost use Rattle.apf_audit.specs.Runs.{run_in};
 ghost use Rattle.apf_audit.specs.TraceText.{line_text};
@@ -26,5 +26,5 @@ pub fn every_estimate_is_in_range()
 /// has at most the 65,536 bytes that a line of a trace can have, besides its LF. It runs no code: the contract is the law.
 pub fn every_trace_fits()
     ensures { (schema : List ℕ) (request : Taken) (arrives_at : ℕ) → length schema ≤ max_name → IsTakenInRange request → arrives_at ≤ max_arrival
-        → length (line_text schema request arrives_at) ≤ max_bytes + 1 }
+        → length (line_text schema (event request) arrives_at) ≤ max_bytes + 1 }
 {}

@@ -4,6 +4,7 @@
 //! - `choice`: which requests are chosen, and what makes a flow.
 //! - `times`: the instants, waits and runs that an event says.
 //! - `event`: which events are taken, and what is taken of one.
+//! - `joining`: what the server's own log says of a request besides.
 //! - `line`: what the bytes of a line give.
 //! - `estimates`: how long requests run that were turned away.
 //! - `arrivals`: the times of arrivals from the first on.
@@ -16,6 +17,7 @@ mod choice;
 mod estimates;
 mod event;
 mod fault;
+mod joining;
 mod laws;
 mod line;
 mod times;
@@ -24,7 +26,7 @@ mod trace;
 pub use arrivals::arrives_at;
 pub use choice::{By, Choice};
 pub use estimates::Estimates;
-pub use event::{Beside, MAX_NAME, Outcome, Taken};
+pub use event::{Beside, MAX_ID, MAX_NAME, Outcome, Taken};
 pub use fault::AuditFault;
 pub use laws::{every_estimate_is_in_range, every_trace_fits};
 pub use line::{MAX_LINE, is_begun, read_line};

@@ -5,6 +5,7 @@
 //!
 //! - `faults`: the text of each fault.
 //! - `beside`: what requests are by the schemas of two clusters.
+//! - `ids`: the ids of requests, and what the server's own log says besides.
 //! - `texts`: a writer that fails.
 #![tactic(auto)]
 
@@ -12,5 +13,7 @@
 mod beside;
 #[cfg(test)]
 mod faults;
+#[cfg(test)]
+mod ids;
 #[cfg(test)]
 mod texts;

@@ -1,0 +1,3 @@
+pub mod Fails
+pub mod Walk
+pub mod Stepping

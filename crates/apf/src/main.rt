@@ -4,11 +4,11 @@
 
 ghost use Rattle.std.specs.Prelude.{◌≤◌, IfOk, vec_len};
 
-use apf_cli::{FileFault, Files, act, cause_of};
+use apf_cli::{FileFault, Files, WriteFault, act, cause_of};
 use std::alloc::{AllocError, Global};
 use std::fs::File;
 use std::io;
-use std::io::{BufWriter, IsTerminal, Read};
+use std::io::{BufWriter, IsTerminal, Read, Write};
 use std::process::ExitCode;
 use std::sync::Wait;
 use std::thread::Threads;
@@ -57,12 +57,24 @@ impl Files for Disk<'_> {
             None => self.rt.stdin().read(into),
         }
     }
+
+    fn write(&mut self, name: &str, bytes: &[u8]) -> Result<(), WriteFault> {
+        let mut file = File::create(self.rt, name).map_err(write_fault_of)?;
+        file.write_all(bytes).map_err(write_fault_of)
+    }
 }
 
 fn fault_of(error: io::Error) -> FileFault {
     match error.kind() {
         io::ErrorKind::OutOfMemory => FileFault::NoMemory,
         _ => FileFault::CannotRead(cause_of(&error)),
+    }
+}
+
+fn write_fault_of(error: io::Error) -> WriteFault {
+    match error.kind() {
+        io::ErrorKind::OutOfMemory => WriteFault::NoMemory,
+        _ => WriteFault::CannotWrite(cause_of(&error)),
     }
 }
 

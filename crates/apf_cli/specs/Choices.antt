@@ -63,6 +63,10 @@ IsTimeFor None time = time ≡ None
 IsTimeFor (Some word) None = ⊥
 IsTimeFor (Some word) (Some time) = IsTime most_time word.now time
 
+-- from when on requests are counted: from the time that the word says, and from the first one on where there is none
+abbrev pub IsSinceFor : Option (Bor (List ℕ)) → ℕ → Type 0
+IsSinceFor word since = (time : Option ℕ) × IsTimeFor word time × (since ≡ unwrap_or time 0)
+
 -- the word says no time
 abbrev pub IsNoTimeFor : Option (Bor (List ℕ)) → Type 0
 IsNoTimeFor None = ⊥

@@ -1,15 +1,18 @@
 //! The command that simulates a whole cluster, or two.
 
-ghost use Rattle.std.specs.Prelude.{◌≡◌, ◌≤◌, IfOk, vec_len};
+ghost use Rattle.std.specs.Prelude.{◌≡◌, ◌≤◌, IfOk, is_some, not, vec_len};
 ghost use Rattle.apf_matching.specs.Limits.{max_seats};
 ghost use Rattle.apf_objects.specs.Cluster.{most_levels};
 ghost use Rattle.apf_times.specs.Limits.{max_patience};
+ghost use Rattle.apf_cli.specs.Choices.{IsSinceFor};
 
 use crate::cluster_faults::{fault_of, fault_of_both, no_level};
+use crate::cluster_pictures::{PictureFile, picture_of, picture_of_both, save};
 use crate::clusters::read_cluster;
-use crate::faults::Fault;
-use crate::files::{Files, Input, Source, judge_names, open_input};
+use crate::faults::{Edge, Fault};
+use crate::files::{Files, Input, STANDARD_INPUT, Source, judge_names, open_input};
 use crate::notes::{note_cut, note_patience, note_unnamed};
+use crate::pictures::time_of;
 use crate::progress::{Amount, Followed, ProgressLine};
 use crate::second::{Second, judge_all_names, read_scenarios};
 use crate::telling::named;
@@ -40,6 +43,10 @@ pub(crate) struct Simulated<'a> {
     pub(crate) json: bool,
     /// Whether each level keeps its nominal limit.
     pub(crate) no_lending: bool,
+    /// From when on requests are counted.
+    pub(crate) warm_up: Option<&'a str>,
+    /// The name of the file of a picture.
+    pub(crate) picture: Option<&'a str>,
 }
 
 // How many requests the server of the log turned away, or as many as are counted at most.
@@ -151,16 +158,40 @@ fn note_left_out<E: Write>(reader: &AuditReader, err: &mut E) {
     note_cut(reader.is_cut(), err);
 }
 
-// How the requests wait, and how many seats there are.
+// From when on requests are counted: from the first one on where no word says a time.
+fn since_of(word: Option<&str>) -> Result<u64, Fault>
+    ensures { IfOk result (IsSinceFor word.entry) }
+{
+    let time = time_of(word, Edge::WarmUp)?;
+    Ok(time.unwrap_or(0))
+}
+
+// The name of the file of a picture is none of standard output.
+fn judge_picture(picture: Option<&str>) -> Result<(), Fault> {
+    if picture == Some(STANDARD_INPUT) {
+        return Err(Fault::PictureOnOutput);
+    }
+    Ok(())
+}
+
+// How the requests wait, how many seats there are, and from when on requests are counted.
 fn terms_of(way: Simulated<'_>) -> Result<ClusterTerms, Fault>
     requires { way.seats ≤ max_seats }
     ensures seats { IfOk result (λ terms. terms.seats ≡ way.entry.seats) }
     ensures patience { IfOk result (λ terms. terms.patience ≤ max_patience) }
+    ensures lends { IfOk result (λ terms. terms.lends ≡ not way.entry.no_lending) }
+    ensures since { IfOk result (λ terms. IsSinceFor way.entry.warm_up terms.since) }
+    ensures draws { IfOk result (λ terms. terms.draws ≡ is_some way.entry.picture) }
 {
+    let patience = patience_of(way.patience)?;
+    let since = since_of(way.warm_up)?;
+    judge_picture(way.picture)?;
     Ok(ClusterTerms {
         seats: way.seats,
-        patience: patience_of(way.patience)?,
+        patience,
         lends: !way.no_lending,
+        since,
+        draws: way.picture.is_some(),
     })
 }
 
@@ -224,49 +255,52 @@ fn run_two<'n, F: Files, C: Clock, E: Write + IsTerminal>(
 }
 
 // Simulates the requests of an audit log on the levels of a cluster, and prints what they came to, by level and by flow. The names
-// are those of the objects and of the log, which is read in pieces, so that it may have any length.
+// are those of the objects and of the log, which is read in pieces, so that it may have any length. Answers the picture, if one is
+// asked for.
 //
 // # Errors
 //
-// The faults of the patience, then those of the files in the order objects, log, then those of the levels and of what runs on them,
-// then those of the output.
-fn print_cluster_run<F: Files, O: Write, C: Clock, E: Write + IsTerminal>(
+// The faults of the patience, those of the warm-up and of the name of a picture, then those of the files in the order objects, log,
+// then those of the levels and of what runs on them, then those of the output.
+fn print_cluster_run<'n, F: Files, O: Write, C: Clock, E: Write + IsTerminal>(
     alloc: Global,
     files: &mut F,
     names: (&str, &str),
-    way: Simulated<'_>,
+    way: Simulated<'n>,
     out: &mut O,
     clock: &C,
     err: &mut E,
-) -> Result<(), Fault>
+) -> Result<Option<PictureFile<'n>>, Fault>
     requires { way.seats ≤ max_seats }
 {
     let terms = terms_of(way)?;
     judge_names(&[names.0, names.1])?;
     let cluster = read_cluster(alloc, files, names.0)?;
     let mut log = open_log(alloc, files, names.1)?;
-    let tables = run_one(alloc, &mut log, &cluster, terms, clock, err)?;
+    let mut tables = run_one(alloc, &mut log, &cluster, terms, clock, err)?;
+    let picture = picture_of(alloc, way.picture, cluster.levels.as_slice(), &mut tables)?;
     write(alloc, &cluster, tables.as_slice(), way, out)?;
     note_left_out(&log.reader, err);
-    Ok(())
+    Ok(picture)
 }
 
 // The same on two clusters, side by side.
 //
 // # Errors
 //
-// The faults of the patience, then those of the files in the order objects, objects of the second cluster; then those of its
-// changes, and of the log; then those of the levels and of what runs on them, then those of the output.
-fn print_both_runs<F: Files, O: Write, C: Clock, E: Write + IsTerminal>(
+// The faults of the patience, those of the warm-up and of the name of a picture, then those of the files in the order objects,
+// objects of the second cluster; then those of its changes, and of the log; then those of the levels and of what runs on them, then
+// those of the output.
+fn print_both_runs<'n, F: Files, O: Write, C: Clock, E: Write + IsTerminal>(
     alloc: Global,
     files: &mut F,
     names: (&str, &str),
-    way: Simulated<'_>,
+    way: Simulated<'n>,
     second: Second<'_>,
     out: &mut O,
     clock: &C,
     err: &mut E,
-) -> Result<(), Fault>
+) -> Result<Option<PictureFile<'n>>, Fault>
     requires some { 1 ≤ way.seats }
     requires few { way.seats ≤ max_seats }
 {
@@ -274,7 +308,12 @@ fn print_both_runs<F: Files, O: Write, C: Clock, E: Write + IsTerminal>(
     judge_all_names(names, second)?;
     let (cluster, scenario) = read_scenarios(alloc, files, names.0, second, way.seats)?;
     let mut log = open_log(alloc, files, names.1)?;
-    let both = run_two(alloc, &mut log, (&cluster, &scenario), terms, clock, err)?;
+    let mut both = run_two(alloc, &mut log, (&cluster, &scenario), terms, clock, err)?;
+    let levels = (
+        cluster.levels.as_slice(),
+        scenario.cluster.levels.as_slice(),
+    );
+    let picture = picture_of_both(alloc, way.picture, levels, &mut both)?;
     let first = Side {
         levels: cluster.levels.as_slice(),
         tables: both.first.as_slice(),
@@ -285,7 +324,7 @@ fn print_both_runs<F: Files, O: Write, C: Clock, E: Write + IsTerminal>(
     };
     write_both(alloc, first, second, way, out)?;
     note_left_out(&log.reader, err);
-    Ok(())
+    Ok(picture)
 }
 
 // Writes the requests of a log that are of the level at this place, as a trace. How far it is stands on standard error meanwhile,
@@ -356,7 +395,8 @@ fn print_level_trace<F: Files, O: Write, C: Clock, E: Write + IsTerminal>(
     Ok(())
 }
 
-// Simulates the requests of an audit log on the levels of a cluster, and on those of a second one where it is asked for.
+// Simulates the requests of an audit log on the levels of a cluster, and on those of a second one where it is asked for, and draws
+// them where that is.
 fn print_runs<F: Files, O: Write, C: Clock, E: Write + IsTerminal>(
     alloc: Global,
     files: &mut F,
@@ -370,13 +410,13 @@ fn print_runs<F: Files, O: Write, C: Clock, E: Write + IsTerminal>(
     requires some { 1 ≤ way.seats }
     requires few { way.seats ≤ max_seats }
 {
-    if second.is_asked() {
-        print_both_runs(alloc, files, names, way, second, out, clock, err)?;
+    let picture = if second.is_asked() {
+        print_both_runs(alloc, files, names, way, second, out, clock, err)?
     } else {
-        print_cluster_run(alloc, files, names, way, out, clock, err)?;
-    }
+        print_cluster_run(alloc, files, names, way, out, clock, err)?
+    };
     note_patience(way.patience, err);
-    Ok(())
+    save(alloc, files, out, picture)
 }
 
 /// Simulates the requests of an audit log on the levels of a cluster, and of a second one where it is asked for; or prints those of
@@ -384,8 +424,8 @@ fn print_runs<F: Files, O: Write, C: Clock, E: Write + IsTerminal>(
 ///
 /// # Errors
 ///
-/// `LevelAndTrace` if one of the two is asked for without the other, `TraceOfTwo` if a second cluster is asked for with both; then
-/// those of what is done.
+/// `LevelAndTrace` if one of the two is asked for without the other, `TraceOfTwo` if a second cluster is asked for with both, and
+/// `TraceAlone` if a warm-up or a picture is; then those of what is done.
 pub(crate) fn print_cluster_command<F: Files, O: Write, C: Clock, E: Write + IsTerminal>(
     alloc: Global,
     files: &mut F,
@@ -403,6 +443,9 @@ pub(crate) fn print_cluster_command<F: Files, O: Write, C: Clock, E: Write + IsT
     match traced {
         (Some(_), false) | (None, true) => Err(Fault::LevelAndTrace),
         (Some(_), true) if second.is_asked() => Err(Fault::TraceOfTwo),
+        (Some(_), true) if way.warm_up.is_some() || way.picture.is_some() => {
+            Err(Fault::TraceAlone)
+        }
         (Some(level), true) => {
             print_level_trace(alloc, files, names, (way.patience, level), out, clock, err)
         }

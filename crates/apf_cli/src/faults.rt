@@ -36,11 +36,12 @@ impl fmt::Display for Bound {
     }
 }
 
-/// An edge of the stretch of a run that is drawn.
+/// An edge of the stretch of a run that is drawn, or counted.
 #[derive(Clone, Copy, Debug, PartialEq, Eq)]
 pub enum Edge {
     From,
     To,
+    WarmUp,
 }
 
 impl fmt::Display for Edge {
@@ -48,6 +49,7 @@ impl fmt::Display for Edge {
         f.write_str(match self {
             Edge::From => "--from",
             Edge::To => "--to",
+            Edge::WarmUp => "--warm-up",
         })
     }
 }
@@ -74,7 +76,7 @@ pub enum Fault {
     BoundOfSeats,
     /// The bound of the choice is no instant from 1970 on.
     BadInstant(Bound),
-    /// The edge of what is drawn is no time, or more than 200,000,000 seconds.
+    /// The edge of what is drawn or counted is no time, or more than 200,000,000 seconds.
     BadTime(Edge),
     /// What is drawn would end before it begins.
     EndsBefore,
@@ -86,6 +88,10 @@ pub enum Fault {
     LevelAndTrace,
     /// The trace of a level is asked for, and a second cluster too.
     TraceOfTwo,
+    /// The trace of a level is asked for, and what only a simulation has.
+    TraceAlone,
+    /// A picture is to be written to standard output, which has what is printed.
+    PictureOnOutput,
     /// A change of a second cluster is refused, with the whole line that says it.
     Change(Vec<u8>),
     /// The level was not opened, for another cause than the dealer's. What the readers accept has none.
@@ -140,6 +146,8 @@ impl Fault {
             | Fault::RequestAndLog
             | Fault::LevelAndTrace
             | Fault::TraceOfTwo
+            | Fault::TraceAlone
+            | Fault::PictureOnOutput
             | Fault::Change(_)
             | Fault::BadTime(_)
             | Fault::EndsBefore
@@ -322,6 +330,12 @@ impl fmt::Display for Fault {
             Fault::TraceOfTwo => f.write_str(
                 "apf: --trace is of one cluster: it goes with neither --set nor --against",
             ),
+            Fault::TraceAlone => f.write_str(
+                "apf: --trace simulates nothing: it goes with neither --warm-up nor --picture",
+            ),
+            Fault::PictureOnOutput => {
+                f.write_str("apf: --picture must name a file, since standard output has the lines")
+            }
             Fault::Level(fault) => write!(f, "apf: the level can't be opened: {fault}"),
             Fault::StillWaits => f.write_str("apf: a request still waits, and no seat is taken"),
             Fault::OtherBook => {

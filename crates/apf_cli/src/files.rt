@@ -86,7 +86,16 @@ pub enum FileFault {
     NoMemory,
 }
 
-/// Where the program's files come from.
+/// Why a file was not written.
+#[derive(Clone, Copy, Debug, PartialEq, Eq)]
+pub enum WriteFault {
+    /// The system does not let it be written. What stands in it then is not known.
+    CannotWrite(Cause),
+    /// Memory was refused.
+    NoMemory,
+}
+
+/// Where the program's files come from, and where it writes one.
 pub trait Files {
     ghost use Rattle.std.specs.Prelude.{ℕ, List};
 
@@ -132,6 +141,13 @@ pub trait Files {
     /// The system's.
     fn read_some(&mut self, into: &mut [u8]) -> io::Result<usize>
         ensures bound { ReadsAtMost result into.new };
+
+    /// Makes the file of this name, or empties it, and writes these bytes.
+    ///
+    /// # Errors
+    ///
+    /// `CannotWrite`, or `NoMemory`.
+    fn write(&mut self, name: &str, bytes: &[u8]) -> Result<(), WriteFault>;
 }
 
 /// What `read_some` reads, as it comes.

@@ -38,8 +38,12 @@ pub(crate) struct Drawn<'a> {
     pub(crate) to: Option<&'a str>,
 }
 
-// The time of this edge, in microseconds, if a word says it.
-fn time_of(word: Option<&str>, edge: Edge) -> Result<Option<u64>, Fault>
+/// The time of this edge, in microseconds, if a word says it.
+///
+/// # Errors
+///
+/// `BadTime` if it is no time.
+pub(crate) fn time_of(word: Option<&str>, edge: Edge) -> Result<Option<u64>, Fault>
     ensures ok { IfOk result (IsTimeFor word.entry) }
     ensures err { IfErr result (λ fault. (fault ≡ Fault.BadTime edge) × IsNoTimeFor word.entry) }
 {

@@ -264,6 +264,8 @@ fn print_action<F: Files, O: Write, E: Write + IsTerminal, R: Wait + Threads + S
             trace,
             changes,
             against,
+            warm_up,
+            picture,
         } => {
             let second = Second {
                 changes: changes.as_slice(),
@@ -275,6 +277,8 @@ fn print_action<F: Files, O: Write, E: Write + IsTerminal, R: Wait + Threads + S
                 flows,
                 json,
                 no_lending,
+                warm_up,
+                picture,
             };
             print_cluster_command(
                 alloc,

@@ -3,7 +3,7 @@
 ghost use Rattle.std.specs.Prelude.{◌≤◌, IfOk, vec_len};
 
 use crate::screen::Screen;
-use apf_cli::{Cause, FileFault, Files, act};
+use apf_cli::{Cause, FileFault, Files, WriteFault, act};
 use std::alloc::Global;
 use std::io;
 use std::io::Read;
@@ -67,6 +67,11 @@ impl Files for Memory<'_> {
     fn open(&mut self, name: &str) -> Result<(), FileFault> {
         self.rest = self.text(name)?.as_bytes();
         Ok(())
+    }
+
+    // No file is written here.
+    fn write(&mut self, _name: &str, _bytes: &[u8]) -> Result<(), WriteFault> {
+        Err(WriteFault::CannotWrite(Cause::NotAllowed))
     }
 
     fn size(&self) -> Option<u64> {

@@ -613,13 +613,22 @@ fn reads_changes_in_their_order(rt: HostRuntime) -> Result<(), Fail> {
         "p",
         "--set",
         "b.shares=1",
+        "--warm-up=60s",
+        "--picture",
+        "f",
     ];
     let without = ["apf", "cluster", "o", "l", "15s"];
     let wanted = ["b.shares=1", "a.shares=2", "b.shares=1"];
     let nothing: [&str; 0] = [];
-    for (words, wanted, other) in [
-        (set.as_slice(), wanted.as_slice(), Some("p")),
-        (without.as_slice(), nothing.as_slice(), None),
+    for (words, wanted, other, warm_up, picture) in [
+        (
+            set.as_slice(),
+            wanted.as_slice(),
+            Some("p"),
+            Some("60s"),
+            Some("f"),
+        ),
+        (without.as_slice(), nothing.as_slice(), None, None, None),
     ] {
         reads(
             &rt,
@@ -639,6 +648,8 @@ fn reads_changes_in_their_order(rt: HostRuntime) -> Result<(), Fail> {
                     trace: false,
                     changes: wanted.to_vec(alloc)?,
                     against: other,
+                    warm_up,
+                    picture,
                 },
             },
         )?;

@@ -11,7 +11,6 @@ use Rattle.apf_objects.specs.Cluster.{ClusterSaid}
 use Rattle.apf_objects.specs.Levels.{LevelSaid, level_view}
 use Rattle.apf_objects.specs.declared.level.Level.{Level}
 use Rattle.apf_matching.specs.Limits.{sum_of_shares}
-use Rattle.apf_simulator.specs.Lanes.{IsLived}
 use Rattle.apf_audit.specs.AuditEvent.{Event, event}
 use Rattle.apf_audit.specs.declared.choice.Choice.{Choice}
 use Rattle.apf_audit.specs.declared.event.Taken.{Taken}
@@ -21,7 +20,7 @@ use Rattle.apf_changes.specs.Scenarios.{AssignedSaid}
 use Rattle.apf_cluster_tables.specs.declared.level_table.LevelTable.{LevelTable}
 use Rattle.apf_cluster.specs.Requests.{level_of, start_of}
 use Rattle.apf_cluster.specs.Lending.{period}
-use Rattle.apf_cluster.specs.Runs.{AreInTime, AreLived, AreOpened, Course, HasCome, HasFed, HasRun, HasRunLog, HaveGone, IsClosed, IsLevelTable, IsOpenedLane, Reaches, all_of}
+use Rattle.apf_cluster.specs.Runs.{AreInTime, AreLived, AreOpened, Course, HasCome, HasFed, HasRun, HasRunLog, HaveGone, IsAlive, IsClosed, IsLevelTable, IsOpenedLane, Reaches, all_of}
 use Rattle.apf_cluster.specs.declared.lanes.LevelLane.{LevelLane}
 use Rattle.apf_cluster.specs.declared.running.ClusterTerms.{ClusterTerms}
 use Rattle.apf_cluster.proofs.Coming.{closed, opened}
@@ -73,7 +72,7 @@ new_in_time terms fixed all levels lanes are = all_of_zip (IsOpenedLane terms fi
 
 pub new_lived : (terms : ClusterTerms) (fixed : List AssignedSaid) (all : ℕ) (levels : List LevelSaid) (lanes : List LevelLane) → AreOpened terms fixed all levels lanes → AreLived lanes
 new_lived terms fixed all levels lanes are =
-    all_of_zip (IsOpenedLane terms fixed all) (λ (v : LevelLane). IsLived v.lane) (λ l v o. record { under = []; opening = v.lane.state; came = []; told = []; lane = o.nobody }) levels lanes are
+    all_of_zip (IsOpenedLane terms fixed all) IsAlive (λ l v o. record { under = []; opening = v.lane.state; came = []; told = []; kept = record { lane = o.nobody; counted = o.counted; drawn = o.drawn } }) levels lanes are
 
 -- nobody came yet
 pub none_reaches : (w : Course) (lanes : List LevelLane) → AreOpened w.terms w.fixed (all_of w) w.cluster.levels lanes → Reaches w [] lanes 0

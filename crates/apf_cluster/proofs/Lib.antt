@@ -1,7 +1,9 @@
 pub mod Asked
 pub mod Coming
+pub mod Spans
 pub mod Ending
 pub mod HandedOut
+pub mod Counted
 pub mod Lived
 pub mod GoingOn
 pub mod Written

@@ -1,14 +1,8 @@
--- A lane that goes on stays one that requests came to.
-use Rattle.std.proofs.Common.{◌≡◌, ◌≤◌, ℕ, List, [], ◌∷◌, ◌++◌, length, refl, arith}
-use Rattle.apf_times.specs.declared.window.Arrival.{Arrival}
-use Rattle.apf_traces.specs.declared.request.TraceRequest.{TraceRequest}
-use Rattle.apf_simulator.specs.Lanes.{GoesOn, IsLived, LaneView}
+-- Nothing was carried out behind a time.
+use Rattle.std.proofs.Common.{◌≡◌, ◌≤◌, ℕ, List, [], ◌∷◌, length, refl, arith}
 use Rattle.apf_cluster.specs.Runs.{AreInTime}
 use Rattle.apf_cluster.specs.declared.lanes.LevelLane.{LevelLane}
 use Rattle.apf_cluster.proofs.Zips.{all_weaker}
-
-pub lived_on : (more : List (Arrival TraceRequest)) (v v' : LaneView) → GoesOn more v v' → IsLived v → IsLived v'
-lived_on more v v' goes l = record { under = l.under; opening = l.opening; came = l.came ++ more; told = l.told ++ v'.ends; lane = goes l.under l.opening l.came l.told l.lane }
 
 -- nothing was carried out behind a later time either
 pub later : (a b : ℕ) (lanes : List LevelLane) → a ≤ b → AreInTime a lanes → AreInTime b lanes

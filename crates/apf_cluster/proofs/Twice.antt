@@ -1,5 +1,5 @@
 -- What was handed out came to both clusters.
-use Rattle.std.proofs.Common.{◌≡◌, ◌∙◌, ◌+◌, ◌*◌, ℕ, suc, List, [], ◌∷◌, ◌++◌, Option, Some, None, refl, sym, ap, subst, arith, replicate, append_assoc}
+use Rattle.std.proofs.Common.{◌≡◌, ◌∙◌, ◌+◌, ℕ, List, [], ◌∷◌, ◌++◌, Option, Some, None, refl, sym, ap, subst, replicate, append_assoc}
 use Rattle.std.specs.Prelude.{IfOk, IsSome, Result, Ok, Err}
 use Rattle.std.specs.Option.{option_to_list}
 use Rattle.std.proofs.lemmas.Grind.{replicate_next}
@@ -11,7 +11,7 @@ use Rattle.apf_audit.specs.AuditEvent.{Event}
 use Rattle.apf_audit.specs.declared.choice.Choice.{Choice}
 use Rattle.apf_audit_reader.specs.Reading.{AreAll}
 use Rattle.apf_audit_reader.specs.Views.{ReaderView}
-use Rattle.apf_cluster.specs.Beside.{AreMatchedTwice, HasRunBoth, HaveBothGone, IsNewGoing, TakesBoth, TakesMore, all_beside, come_beside, course_beside}
+use Rattle.apf_cluster.specs.Beside.{HasRunBoth, HaveBothGone, IsNewGoing, TakesBoth, TakesMore, all_beside, come_beside, course_beside}
 use Rattle.apf_cluster.specs.Requests.{level_of, start_of}
 use Rattle.apf_cluster.specs.Runs.{Course, HasFed, HasRun, HaveLevels, Reaches}
 use Rattle.apf_cluster.specs.declared.beside.Going.{Going}

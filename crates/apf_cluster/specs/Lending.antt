@@ -64,17 +64,25 @@ set_limits false i adjustments = []
 set_limits true i [] = []
 set_limits true i (a ∷ earlier) = set_limits true i earlier ++ record { at = period * suc (length earlier); limit = given i a } ∷ []
 
--- the least limit of the lane, which began with this one
-abbrev pub least_set : Bool → ℕ → ℕ → List Adjustment → ℕ
-least_set false i first adjustments = first
-least_set true i first [] = first
-least_set true i first (a ∷ earlier) = min (given i a) (least_set true i first earlier)
+-- the least limit from a time on, once this one is set, where it was that before: this one, if no other was in force since
+abbrev pub least_then : (since at limit before : ℕ) → ℕ
+least_then since at limit before = if nat_le at since then limit else min limit before
 
 -- the greatest
-abbrev pub greatest_set : Bool → ℕ → ℕ → List Adjustment → ℕ
-greatest_set false i first adjustments = first
-greatest_set true i first [] = first
-greatest_set true i first (a ∷ earlier) = max (given i a) (greatest_set true i first earlier)
+abbrev pub greatest_then : (since at limit before : ℕ) → ℕ
+greatest_then since at limit before = if nat_le at since then limit else max limit before
+
+-- the least limit of the lane from a time on, which began with this one
+abbrev pub least_set : Bool → (since i first : ℕ) → List Adjustment → ℕ
+least_set false since i first adjustments = first
+least_set true since i first [] = first
+least_set true since i first (a ∷ earlier) = least_then since (period * suc (length earlier)) (given i a) (least_set true since i first earlier)
+
+-- the greatest
+abbrev pub greatest_set : Bool → (since i first : ℕ) → List Adjustment → ℕ
+greatest_set false since i first adjustments = first
+greatest_set true since i first [] = first
+greatest_set true since i first (a ∷ earlier) = greatest_then since (period * suc (length earlier)) (given i a) (greatest_set true since i first earlier)
 
 -- At the end of each period the level at this place claimed by what its requests asked for in that period, and before. The last adjustment comes first
 abbrev pub HasClaimed : ℕ → Bounds → (ℕ → ℕ) → List Adjustment → ℕ → Type 0

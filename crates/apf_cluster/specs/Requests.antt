@@ -21,12 +21,12 @@ pub record Said : Type 0 where
 abbrev pub said : Arrival TraceRequest → Said
 said x = record { line = x.place.line; at = x.place.arrives_at; entry = entry x.item }
 
--- the request of an event of the schema of this name, which arrives at this time: of one seat
+-- the request of an event of the schema of this name, which arrives at this time
 abbrev pub asked_for : Text → ℕ → Event → Said
 asked_for name at e = record {
   line = e.line;
   at = at;
-  entry = record { arrives_at = at; runs_for = e.runs_for; hash = flow_hash_of name e.flow; names = Some (name, e.flow); width = 1; cost = None };
+  entry = record { arrives_at = at; runs_for = e.runs_for; hash = flow_hash_of name e.flow; names = Some (name, e.flow); width = e.width; cost = None };
 }
 
 -- the schema at this place, if there is one

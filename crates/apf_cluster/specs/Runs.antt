@@ -1,5 +1,5 @@
 -- The requests of a log run on the levels of a cluster.
-use Rattle.std.specs.Prelude.{◌≡◌, ℕ, suc, ◌+◌, ◌*◌, ◌≤◌, min, max, not, ◌&&◌, true, false, List, [], ◌∷◌, ◌++◌, length, map, count_by, slice_get, slice_set, Bool, Option, Some, None, IsSome, if◌then◌else◌}
+use Rattle.std.specs.Prelude.{◌≡◌, ℕ, suc, ◌+◌, ◌-◌, ◌*◌, ◌≤◌, not, ◌&&◌, true, false, List, [], ◌∷◌, ◌++◌, length, map, count_by, slice_get, slice_set, Bool, Option, Some, None, IsSome, if◌then◌else◌}
 use Rattle.std.specs.Borrow.{Bor}
 use Rattle.std.specs.List.{AllByRecursion, AllZip}
 use Rattle.std.specs.Option.{option_to_list}
@@ -25,21 +25,47 @@ use Rattle.apf_stream.specs.States.{State}
 use Rattle.apf_stream.specs.declared.deed.NewLimit.{NewLimit}
 use Rattle.apf_stream.specs.declared.ended.Ended.{Ended}
 use Rattle.apf_rows.specs.Tables.{IsTable}
+use Rattle.apf_rows.specs.declared.table.Table.{Table}
 use Rattle.apf_simulator.specs.Feeds.{IsOver}
-use Rattle.apf_simulator.specs.Lanes.{IsLane, IsLaneUnder, IsLived, IsOpening, LaneView}
+use Rattle.apf_simulator.specs.Lanes.{IsLane, IsLaneUnder, IsOpening, LaneView}
 use Rattle.apf_simulator.specs.Told.{EndsWith, IsTableOf}
 use Rattle.apf_cluster_tables.specs.Limits.{limit_of}
 use Rattle.apf_cluster_tables.specs.declared.level_table.LevelTable.{LevelTable}
-use Rattle.apf_cluster.specs.Lending.{Adjustment, HasClaimed, IsAdjustment, IsAsked, asked_at, bounds_of, greatest_of, greatest_set, least_set, or_none, period, set_limits}
+use Rattle.apf_cluster.specs.Lending.{Adjustment, HasClaimed, IsAdjustment, IsAsked, asked_at, bounds_of, greatest_of, greatest_set, greatest_then, least_set, least_then, or_none, period, set_limits}
+use Rattle.apf_cluster.specs.Drawn.{AreDrawn, DrawsStill, HasStrip, IsStripBy, StillHas}
+use Rattle.apf_cluster.specs.Late.{AreCounted, IsTableSince, came_from, is_counted, told_from}
 use Rattle.apf_cluster.specs.Shapes.{config_of, limits_from, slots_of}
 use Rattle.apf_cluster.specs.Requests.{level_of, of_level, request_of, said, start_of}
 use Rattle.apf_cluster.specs.declared.feeding.Way.{Way}
+use Rattle.apf_cluster.specs.declared.late.Late.{Late}
 use Rattle.apf_cluster.specs.declared.lanes.LevelLane.{LevelLane}
 use Rattle.apf_cluster.specs.declared.running.ClusterTerms.{ClusterTerms}
 
--- requests came to each lane by turns of it
+-- From a level to which nobody came these came to the lane, it was set these limits, and these were told. Those from a time on are counted, and all are drawn
+pub record IsKept (under : List NewLimit) (opening : State) (came : List (Arrival TraceRequest)) (told : List Ended) (v : LevelLane) : Type 0 where
+  pub lane : IsLaneUnder under opening came told v.lane
+  pub counted : AreCounted came told v.late
+  pub drawn : AreDrawn (limit_of v.nominal) under told v.drawn
+
+-- requests came to the lane by turns of it
+pub record IsAlive (v : LevelLane) : Type 0 where
+  pub under : List NewLimit
+  pub opening : State
+  pub came : List (Arrival TraceRequest)
+  pub told : List Ended
+  pub kept : IsKept under opening came told v
+
 abbrev pub AreLived : List LevelLane → Type 0
-AreLived lanes = AllByRecursion (λ (v : LevelLane). IsLived v.lane) lanes
+AreLived lanes = AllByRecursion IsAlive lanes
+
+-- requests came to a lane by turns of it, and who was told last is not counted yet
+pub record IsAhead (l : LaneView) (late : Late) : Type 0 where
+  pub under : List NewLimit
+  pub opening : State
+  pub came : List (Arrival TraceRequest)
+  pub told : List Ended
+  pub lane : IsLaneUnder under opening came (told ++ l.ends) l
+  pub counted : AreCounted came told late
 
 -- nothing later was carried out
 abbrev pub AreInTime : ℕ → List LevelLane → Type 0
@@ -72,7 +98,9 @@ IsOpeningOf terms fixed all l s =
 -- the limits of two lanes are the same
 pub record AreSameLimits (v v' : LevelLane) : Type 0 where
   pub lent : v'.is_lent ≡ v.is_lent
+  pub since : v'.late.since ≡ v.late.since
   pub nominal : v'.nominal ≡ v.nominal
+  pub draws : DrawsStill v.drawn v'.drawn
   pub least : v'.least ≡ v.least
   pub greatest : v'.greatest ≡ v.greatest
 
@@ -83,10 +111,15 @@ pub record IsOfLevel (v v' : LevelLane) : Type 0 where
 
 -- From a level to which nobody came these came to the lane of this place, it was set these limits, and these were told. It claimed by that, by these adjustments
 pub record IsRunning (under : List NewLimit) (i : ℕ) (bounds : Bounds) (adjustments : List Adjustment) (opening : State) (came : List (Arrival TraceRequest)) (told : List Ended) (v : LevelLane) : Type 0 where
-  pub lane : IsLaneUnder under opening came told v.lane
+  pub kept : IsKept under opening came told v
   pub asked : IsAsked i bounds adjustments came told v.asking
 
--- whatever it was of before: some were told more
+-- whatever it was of before: these limits were set, these came more, and some were told more
+abbrev pub KeepsOn : List NewLimit → List (Arrival TraceRequest) → LevelLane → LevelLane → Type 0
+KeepsOn set more v v' = (under : List NewLimit) (opening : State) (came : List (Arrival TraceRequest)) (told : List Ended)
+    → IsKept under opening came told v → IsKept (under ++ set) opening (came ++ more) (told ++ v'.lane.ends) v'
+
+-- the same, with what its requests ask for: some were told more
 abbrev pub RunsOn : LevelLane → LevelLane → Type 0
 RunsOn v v' = (under : List NewLimit) (i : ℕ) (bounds : Bounds) (adjustments : List Adjustment) (opening : State) (came : List (Arrival TraceRequest)) (told : List Ended)
     → IsRunning under i bounds adjustments opening came told v → (more : List Ended) × IsRunning under i bounds adjustments opening came (told ++ more) v'
@@ -111,9 +144,11 @@ EndsOn at claim v v' = (under : List NewLimit) (i : ℕ) (bounds : Bounds) (adju
 pub record IsSet (new : NewLimit) (v v' : LevelLane) : Type 0 where
   pub goes : SetsOn new v v'
   pub lent : v'.is_lent ≡ v.is_lent
+  pub since : v'.late.since ≡ v.late.since
   pub nominal : v'.nominal ≡ v.nominal
-  pub least : v'.least ≡ min new.limit v.least
-  pub greatest : v'.greatest ≡ max new.limit v.greatest
+  pub draws : DrawsStill v.drawn v'.drawn
+  pub least : v'.least ≡ least_then v.late.since new.at new.limit v.least
+  pub greatest : v'.greatest ≡ greatest_then v.late.since new.at new.limit v.greatest
   pub turned_away : v'.turned_away ≡ v.turned_away
 
 -- if the level is lent seats; else nothing is done
@@ -143,6 +178,10 @@ pub record AreSet (at : ℕ) (limits : List ℕ) (lanes lanes' : List LevelLane)
 pub record IsOpenedLane (terms : ClusterTerms) (fixed : List AssignedSaid) (all : ℕ) (l : LevelSaid) (v : LevelLane) : Type 0 where
   pub opened : IsOpeningOf terms fixed all l v.lane.state
   pub nobody : IsLane v.lane.state [] [] v.lane
+  pub since : v.late.since ≡ terms.since
+  pub counted : AreCounted [] [] v.late
+  pub drawn : AreDrawn (limit_of v.nominal) [] [] v.drawn
+  pub draws : HasStrip terms.draws v.drawn.strip
   pub time : v.lane.state.slots.time ≡ 0
   pub asks : IsNew (bounds_in terms fixed all l) 0 v.asking
   pub lent : v.is_lent ≡ is_lent terms l
@@ -163,7 +202,7 @@ pub record GoesOnAt (place : ℕ) (x : Arrival TraceRequest) (turned_away : Bool
   pub is : lanes' ≡ slice_set lanes place after
   pub goes : TakesOn x before after
   pub same : AreSameLimits before after
-  pub counted : after.turned_away ≡ before.turned_away + (if turned_away then 1 else 0)
+  pub counted : after.turned_away ≡ before.turned_away + (if is_counted before.late.since turned_away x.item.arrives_at then 1 else 0)
 
 -- the request of an event came to the lane of its level
 pub record TakesOne (c : ClusterSaid) (start : ℕ) (e : Event) (lanes lanes' : List LevelLane) : Type 0 where
@@ -189,6 +228,10 @@ all_of w = sum_of_shares w.cluster.levels
 abbrev pub course_of : Way → Course
 course_of way = record { cluster = cluster_view way.cluster.now; terms = way.terms; fixed = map assigned_view way.fixed.now; start = way.start }
 
+-- the request of an event was turned away, and is counted, where the first one was received at this time
+abbrev pub was_refused : Course → Event → Bool
+was_refused w e = is_counted w.terms.since e.turned_away (e.received - w.start)
+
 -- Of these events, those that are of the level at this place came to its lane, which was opened for it, in their order. It claimed at the end of each period, and was set the limits of these adjustments
 pub record HasCome (w : Course) (told : List Event) (adjustments : List Adjustment) (i : ℕ) (l : LevelSaid) (v : LevelLane) : Type 0 where
   pub opening : State
@@ -198,10 +241,12 @@ pub record HasCome (w : Course) (told : List Event) (adjustments : List Adjustme
   pub runs : IsRunning (set_limits (is_lent w.terms l) i adjustments) i (bounds_in w.terms w.fixed (all_of w) l) adjustments opening came out v
   pub are : map said came ≡ map (request_of w.cluster w.start) (of_level w.cluster i told)
   pub lent : v.is_lent ≡ is_lent w.terms l
+  pub since : v.late.since ≡ w.terms.since
+  pub draws : HasStrip w.terms.draws v.drawn.strip
   pub nominal : v.nominal ≡ (limits_in w.terms w.fixed (all_of w) l).nominal
-  pub least : v.least ≡ least_set (is_lent w.terms l) i (limit_of (limits_in w.terms w.fixed (all_of w) l).nominal) adjustments
-  pub greatest : v.greatest ≡ greatest_set (is_lent w.terms l) i (limit_of (limits_in w.terms w.fixed (all_of w) l).nominal) adjustments
-  pub turned_away : v.turned_away ≡ count_by (λ (e : Event). e.turned_away) (of_level w.cluster i told)
+  pub least : v.least ≡ least_set (is_lent w.terms l) w.terms.since i (limit_of (limits_in w.terms w.fixed (all_of w) l).nominal) adjustments
+  pub greatest : v.greatest ≡ greatest_set (is_lent w.terms l) w.terms.since i (limit_of (limits_in w.terms w.fixed (all_of w) l).nominal) adjustments
+  pub turned_away : v.turned_away ≡ count_by (was_refused w) (of_level w.cluster i told)
 
 -- the same of each level
 abbrev pub HaveCome : Course → List Event → List Adjustment → List LevelLane → Type 0
@@ -263,13 +308,20 @@ pub record IsClosed (end : ℕ) (v : LevelLane) (t : LevelTable) : Type 0 where
   pub same : IsOfLevel v over
   pub is_over : IsOver over.lane
   pub quiet : IsQuiet end over.asking
-  pub table : IsTableOf over.lane t.table
+  pub whole : Table
+  pub of_all : IsTableOf over.lane whole
+  pub last : t.last ≡ whole.all.sums.last
+  pub since : t.since ≡ over.late.since
+  pub table : IsTableSince over.late whole t.table
+  pub drawn : (first : ℕ) (under : List NewLimit) (told : List Ended) → AreDrawn first under told over.drawn → IsStripBy end first under told t.strip
+  pub still : StillHas over.drawn.strip t.strip
   pub nominal : t.nominal ≡ over.nominal
   pub least : t.least ≡ over.least
   pub greatest : t.greatest ≡ over.greatest
   pub turned_away : t.turned_away ≡ over.turned_away
 
 -- Of these events, those that are of the level at this place ran on it, in their order, until nothing was due, and this is what they came to.
+-- The table is of all that came from a time on; that of all has the numbers of the level's own book. All are drawn, if that is asked for.
 -- At the end of each period the level claimed by what its requests asked for, and it was set the limits of these adjustments. Nobody asks for anything behind the last of these periods and the next one.
 pub record IsLevelTable (w : Course) (told : List Event) (adjustments : List Adjustment) (i : ℕ) (l : LevelSaid) (t : LevelTable) : Type 0 where
   pub opening : State
@@ -283,12 +335,18 @@ pub record IsLevelTable (w : Course) (told : List Event) (adjustments : List Adj
   pub lately : ℕ
   pub claimed : HasClaimed i (bounds_in w.terms w.fixed (all_of w) l) (asked_at came out) adjustments lately
   pub quiet : (time : ℕ) → period * suc (length adjustments) ≤ time → asked_at came out time ≡ 0
-  pub table : IsTable came out t.table
-  pub ends : EndsWith lane t.table
+  pub whole : Table
+  pub of_all : IsTable came out whole
+  pub ends : EndsWith lane whole
+  pub last : t.last ≡ whole.all.sums.last
+  pub since : t.since ≡ w.terms.since
+  pub table : IsTable (came_from w.terms.since came) (told_from w.terms.since out) t.table
+  pub draws : HasStrip w.terms.draws t.strip
+  pub drawn : IsStripBy (period * suc (length adjustments)) (limit_of (limits_in w.terms w.fixed (all_of w) l).nominal) (set_limits (is_lent w.terms l) i adjustments) out t.strip
   pub nominal : t.nominal ≡ (limits_in w.terms w.fixed (all_of w) l).nominal
-  pub least : t.least ≡ least_set (is_lent w.terms l) i (limit_of (limits_in w.terms w.fixed (all_of w) l).nominal) adjustments
-  pub greatest : t.greatest ≡ greatest_set (is_lent w.terms l) i (limit_of (limits_in w.terms w.fixed (all_of w) l).nominal) adjustments
-  pub turned_away : t.turned_away ≡ count_by (λ (e : Event). e.turned_away) (of_level w.cluster i told)
+  pub least : t.least ≡ least_set (is_lent w.terms l) w.terms.since i (limit_of (limits_in w.terms w.fixed (all_of w) l).nominal) adjustments
+  pub greatest : t.greatest ≡ greatest_set (is_lent w.terms l) w.terms.since i (limit_of (limits_in w.terms w.fixed (all_of w) l).nominal) adjustments
+  pub turned_away : t.turned_away ≡ count_by (was_refused w) (of_level w.cluster i told)
 
 -- what the requests of each level came to
 abbrev pub AreTables : Course → List Event → List Adjustment → List LevelTable → Type 0

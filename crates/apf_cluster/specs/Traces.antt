@@ -1,12 +1,12 @@
 -- The requests of a level, as a trace.
-use Rattle.std.specs.Prelude.{◌≡◌, ℕ, ◌-◌, List, [], ◌++◌, Option, codes, if◌then◌else◌}
+use Rattle.std.specs.Prelude.{◌≡◌, ℕ, ◌-◌, List, [], ◌++◌, Option, if◌then◌else◌}
 use Rattle.std.specs.List.{flat_map}
 use Rattle.std.specs.Option.{option_to_list}
 use Rattle.std.specs.Io.KnownBytes.{Appends, Consumes, IsAtEnd}
 use Rattle.apf_objects.specs.Cluster.{ClusterSaid}
 use Rattle.apf_objects.specs.Rules.{Text}
 use Rattle.apf_audit.specs.AuditEvent.{Event}
-use Rattle.apf_audit.specs.TraceText.{member_text, times_text}
+use Rattle.apf_audit.specs.TraceText.{line_text}
 use Rattle.apf_audit.specs.declared.choice.Choice.{Choice}
 use Rattle.apf_audit_reader.specs.Reading.{AreAll}
 use Rattle.apf_audit_reader.specs.Views.{ReaderView}
@@ -15,7 +15,7 @@ use Rattle.apf_cluster.specs.Runs.{HasFed}
 
 -- the line of the request of an event of the schema of this name, which arrives at this time
 abbrev pub line_of : Text → ℕ → Event → List ℕ
-line_of name at e = member_text (codes "{\"schema\":") name ++ member_text (codes ",\"distinguisher\":") e.flow ++ times_text at e.runs_for
+line_of name at e = line_text name e at
 
 -- the line of the request of an event, if it is of the level at this place, where the first one was received at this time
 abbrev pub lines_of : ClusterSaid → (place start : ℕ) → Event → List ℕ

@@ -6,6 +6,7 @@ ghost use Rattle.apf_objects.specs.Levels.{level_view};
 ghost use Rattle.apf_objects.specs.Schemas.{schema_view};
 ghost use Rattle.apf_times.specs.Limits.{max_arrival, max_run};
 ghost use Rattle.apf_traces.specs.TraceValue.{IsRequestInRange};
+ghost use Rattle.apf_words.specs.Limits.{max_width};
 ghost use Rattle.apf_cluster_tables.specs.Sides.{level_named as named};
 ghost use Rattle.apf_cluster.specs.Requests as spec;
 
@@ -17,7 +18,7 @@ use apf_times::{Arrival, Place};
 use apf_traces::{FlowNames, TraceRequest};
 use std::alloc::{AllocError, Global};
 
-/// The request of an event of the schema of this name, which arrives at this time: of one seat, as a log does not say how many.
+/// The request of an event of the schema of this name, which arrives at this time: as wide as was taken of the event.
 pub(crate) fn request_of(
     alloc: Global,
     schema: &str,
@@ -26,6 +27,7 @@ pub(crate) fn request_of(
 ) -> Result<Arrival<TraceRequest>, AllocError>
     requires time { at ≤ max_arrival }
     requires run { taken.now.runs_for ≤ max_run }
+    requires width { (1 ≤ taken.now.width) × (taken.now.width ≤ max_width) }
     ensures is { IfOk result (λ came. spec.said came ≡ spec.asked_for schema.now at (event taken.now)) }
     ensures range { IfOk result (λ came. IsRequestInRange came.item) }
     ensures time { IfOk result (λ came. came.item.arrives_at ≡ at) }
@@ -41,7 +43,7 @@ pub(crate) fn request_of(
         runs_for: taken.runs_for,
         hash,
         names: Some(names),
-        width: 1,
+        width: taken.width,
         cost: None,
     };
     let place = Place {

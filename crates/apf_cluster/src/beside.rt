@@ -36,9 +36,11 @@ fn seen_beside(taken: Taken) -> Option<Seen>
 {
     let Taken {
         line,
+        audit_id,
         received,
         turned_away,
         runs_for,
+        width,
         schema: _,
         distinguisher: _,
         beside,
@@ -50,9 +52,11 @@ fn seen_beside(taken: Taken) -> Option<Seen>
     } = beside?;
     let taken = Taken {
         line,
+        audit_id,
         received,
         turned_away,
         runs_for,
+        width,
         schema,
         distinguisher,
         beside: None,

@@ -2,13 +2,11 @@
 
 ghost use Rattle.std.specs.Prelude.{◌↔◌, IfOk, IsTrue, OnOk};
 ghost use Rattle.std.specs.List.{AllZip};
-ghost use Rattle.apf_simulator.specs.Lanes.{IsLived};
 ghost use Rattle.apf_simulator.specs.Feeds.{IsOver};
-ghost use Rattle.apf_cluster.specs.Runs.{AreLived, IsClosed, IsOfLevel, IsQuiet, RunsOn};
+ghost use Rattle.apf_cluster.specs.Runs.{AreLived, IsAlive, IsClosed, IsOfLevel, IsQuiet, RunsOn};
 
-use crate::demand::leave_all;
 use crate::fault::ClusterFault;
-use crate::lanes::LevelLane;
+use crate::lanes::{LevelLane, hear};
 use apf_cluster_tables::LevelTable;
 use apf_lender::Asking;
 use std::alloc::Global;
@@ -22,15 +20,20 @@ fn is_quiet(asking: &Asking, end: u64) -> bool
 
 // Carries out all that is due on a lane, after which nobody asks for seats from this time on.
 fn finish(level: &mut LevelLane, end: u64) -> Result<(), ClusterFault>
-    requires { IsLived level.old.lane }
+    requires { IsAlive level.old }
     ensures runs { OnOk result (RunsOn level.old level.new) }
     ensures same { OnOk result (IsOfLevel level.old level.new) }
     ensures over { OnOk result (IsOver level.new.lane) }
     ensures quiet { OnOk result (IsQuiet end level.new.asking) }
-    ensures lived { OnOk result (IsLived level.new.lane) }
+    ensures lived { OnOk result (IsAlive level.new) }
 {
     level.lane.finish()?;
-    leave_all(&mut level.asking, level.lane.ends())?;
+    hear(
+        &mut level.asking,
+        &mut level.late,
+        &mut level.drawn,
+        &level.lane,
+    )?;
     if !is_quiet(&level.asking, end) {
         return Err(ClusterFault::Untimely);
     }
@@ -39,13 +42,15 @@ fn finish(level: &mut LevelLane, end: u64) -> Result<(), ClusterFault>
 
 // Carries out all that is due on a lane, and ends its level.
 fn close(alloc: Global, level: LevelLane, end: u64) -> Result<LevelTable, ClusterFault>
-    requires { IsLived level.lane }
+    requires { IsAlive level }
     ensures { IfOk result (IsClosed end level) }
 {
     let mut level = level;
     finish(&mut level, end)?;
     let LevelLane {
         lane,
+        late,
+        drawn,
         asking: _,
         is_lent: _,
         nominal,
@@ -53,13 +58,20 @@ fn close(alloc: Global, level: LevelLane, end: u64) -> Result<LevelTable, Cluste
         greatest,
         turned_away,
     } = level;
-    let (table, _report) = lane.close(alloc)?;
+    let since = late.since;
+    let (whole, _report) = lane.close(alloc)?;
+    let last = whole.all.sums.last;
+    let table = late.close(whole)?;
+    let strip = drawn.close(end)?;
     Ok(LevelTable {
+        since,
         nominal,
         least,
         greatest,
         table,
         turned_away,
+        last,
+        strip,
     })
 }
 

@@ -20,8 +20,8 @@ pub enum ClusterFault {
     /// What runs on a level.
     #[error("{0}")]
     Level(SimulatorFault),
-    /// The request of this line was handed out before its time, runs for too long, or is of no level. It has never been seen: that
-    /// it can't be is not proved.
+    /// The request of this line was handed out before its time, runs for too long, has no width that a request can have, or is of
+    /// no level. It has never been seen: that it can't be is not proved.
     #[error("line {0} is of no level, or out of order")]
     Misread(u64),
     /// A level was told what its requests ask for out of its time. It has never been seen: that it can't be is not proved.

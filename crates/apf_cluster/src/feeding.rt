@@ -18,6 +18,7 @@ use apf_audit_reader::AuditReader;
 use apf_changes::Assigned;
 use apf_objects::Cluster;
 use apf_times::MOST_RUNS_FOR;
+use apf_words::MAX_WIDTH;
 use std::alloc::Global;
 use std::io::Read;
 
@@ -57,7 +58,7 @@ fn take_at(
     ensures lived { OnOk result (AreLived lanes.new.items) }
 {
     let misread = ClusterFault::Misread(taken.line);
-    if taken.runs_for > MOST_RUNS_FOR {
+    if taken.runs_for > MOST_RUNS_FOR || taken.width < 1 || taken.width > MAX_WIDTH {
         return Err(misread);
     }
     let Some(schema) = schema_at(way.cluster.schemas.as_slice(), taken.schema) else {

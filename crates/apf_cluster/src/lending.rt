@@ -5,10 +5,9 @@ ghost use Rattle.apf_audit.specs.AuditEvent.{Event};
 ghost use Rattle.apf_times.specs.Limits.{max_wait};
 ghost use Rattle.apf_lending.specs.Claims.{IsClaim};
 ghost use Rattle.apf_words.specs.Limits.{max_limit};
-ghost use Rattle.apf_simulator.specs.Lanes.{IsLived};
 ghost use Rattle.apf_cluster_tables.specs.Limits.{limit_of as limit_by};
 ghost use Rattle.apf_cluster.specs.Lending.{or_none, period};
-ghost use Rattle.apf_cluster.specs.Runs.{AreEnded, AreInTime, AreLived, AreSet, HaveGoneOn, IsSetBy, Reaches, course_of, nominal_of_all};
+ghost use Rattle.apf_cluster.specs.Runs.{AreEnded, AreInTime, AreLived, AreSet, HaveGoneOn, IsAlive, IsSetBy, Reaches, course_of, nominal_of_all};
 
 use crate::fault::ClusterFault;
 use crate::feeding::Way;
@@ -73,14 +72,14 @@ fn given(limits: &[u64], level: usize) -> u32
 
 // The level is set the limit, if it is lent seats.
 fn set_one(level: &mut LevelLane, new: NewLimit) -> Result<(), ClusterFault>
-    requires lived { IsLived level.old.lane }
+    requires lived { IsAlive level.old }
     requires low { new.at ≤ max_wait }
     requires some_limit { 1 ≤ new.limit }
     requires small_limit { new.limit ≤ max_limit }
     requires forward { level.old.lane.state.slots.time ≤ new.at }
     ensures set { OnOk result (IsSetBy level.old.is_lent new level.old level.new) }
     ensures time { OnOk result (level.new.lane.state.slots.time ≤ new.at) }
-    ensures lived { OnOk result (IsLived level.new.lane) }
+    ensures lived { OnOk result (IsAlive level.new) }
 {
     if level.is_lent {
         set_on(level, new)

@@ -2,6 +2,8 @@
 //!
 //! - `shape`: what a level is opened with. `fault`: why a log is not simulated.
 //! - `asking`: the request of an event, and the level that it is of.
+//! - `late`: the rows of those requests that come from a time on.
+//! - `drawn`: what is drawn of a level over time.
 //! - `lanes`: a lane for each level. `feeding`: each request of a log arrives on the lane of its level.
 //! - `demand`: for how many seats the requests of a level ask. `lending`: the seats are divided anew at the end of each period.
 //! - `limits`: the limits of a level. `beside`: a request arrives on a second cluster. `both`: a whole log on two clusters.
@@ -13,9 +15,11 @@ mod beside;
 mod both;
 mod closing;
 mod demand;
+mod drawn;
 mod fault;
 mod feeding;
 mod lanes;
+mod late;
 mod lending;
 mod limits;
 mod running;

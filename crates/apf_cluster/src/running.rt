@@ -32,6 +32,11 @@ pub struct ClusterTerms {
     pub patience: u64,
     /// Whether seats are lent to the levels anew every ten seconds.
     pub lends: bool,
+    /// From when on requests are counted, in microseconds from the first request on. Those before run, and are left out of what is
+    /// told.
+    pub since: u64,
+    /// Whether the levels are drawn over time.
+    pub draws: bool,
 }
 
 /// When the first request was received, if there is one.
@@ -72,8 +77,8 @@ pub(crate) fn close_after(
 ///
 /// The reader has read nothing. A level begins with its nominal limit, by its shares of the server's seats, but one seat at least;
 /// one that is exempt holds no request back. Every ten seconds of the log, as long as somebody is there, the seats are divided anew
-/// by what the requests of each level asked for, if they are lent. A request takes one seat. It runs, waits, gives up and is charged
-/// as on the level of `simulate`, where requests are charged by time.
+/// by what the requests of each level asked for, if they are lent. A request takes its width in seats. It runs, waits, gives up and
+/// is charged as on the level of `simulate`, where requests are charged by time.
 ///
 /// # Errors
 ///

@@ -1,5 +1,5 @@
 -- What is printed of the levels of a cluster and of their flows.
-use Rattle.std.specs.Prelude.{ℕ, ◌*◌, ◌/◌, min, max, nat_eq, nat_lt, Bool, true, false, List, [], ◌∷◌, ◌++◌, length, slice_get, Option, Some, None, if◌then◌else◌, codes, decimal}
+use Rattle.std.specs.Prelude.{ℕ, ◌-◌, ◌*◌, ◌/◌, min, max, nat_eq, nat_lt, Bool, true, false, List, [], ◌∷◌, ◌++◌, length, slice_get, Option, Some, None, if◌then◌else◌, codes, decimal}
 use Rattle.std.specs.List.{flat_map, range_with_len}
 use Rattle.apf_flows.specs.Json.{escapes_of}
 use Rattle.apf_flows.specs.Names.{names_text}
@@ -59,12 +59,12 @@ limits_text settings t = if settings.is_exempt then codes " -" else range_text t
 unfoldable pub seats_text : LevelSettings → LevelTable → List ℕ
 seats_text settings t = (codes " " ++ decimal t.nominal) ++ limits_text settings t
 
-unfoldable pub used_text : (seat_time seats end : ℕ) → List ℕ
-used_text seat_time seats end = part_text seat_time (seats * end)
+unfoldable pub used_text : (seat_time seats time : ℕ) → List ℕ
+used_text seat_time seats time = part_text seat_time (seats * time)
 
--- how many requests the server of the log turned away, and what was used
+-- how many requests the server of the log turned away, and what was used from when on they are counted
 unfoldable pub spent_text : LevelSettings → LevelTable → ℕ → List ℕ
-spent_text settings t end = (codes " " ++ decimal t.turned_away) ++ used_text t.table.all.sums.seat_time (bound_of settings t.nominal) end
+spent_text settings t end = (codes " " ++ decimal t.turned_away) ++ used_text t.table.all.sums.seat_time (bound_of settings t.nominal) (end - t.since)
 
 -- the columns of a level behind its name, each with a blank before it
 unfoldable pub level_columns : LevelSettings → LevelTable → ℕ → List ℕ

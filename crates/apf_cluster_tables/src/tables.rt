@@ -100,12 +100,12 @@ fn write_seats<W: Write>(
     write_limits(out, settings, table)
 }
 
-// Writes how much of these seats was used up to this time, in per cent, less what is below one.
+// Writes how much of these seats was used in so much time, in per cent, less what is below one.
 #[tactic(auto, unfolding(crate::specs::Texts::used_text))]
-fn write_used<W: Write>(out: &mut W, seat_time: u128, seats: u32, end: u64) -> io::Result<()>
-    ensures { OnOk result (Appends (W.contents out.old) (W.contents out.new) (spec.used_text seat_time seats end)) }
+fn write_used<W: Write>(out: &mut W, seat_time: u128, seats: u32, time: u64) -> io::Result<()>
+    ensures { OnOk result (Appends (W.contents out.old) (W.contents out.new) (spec.used_text seat_time seats time)) }
 {
-    let possible = u128::from(seats) * u128::from(end);
+    let possible = u128::from(seats) * u128::from(time);
     if possible == 0 {
         return out.write_all(b" -");
     }
@@ -125,8 +125,9 @@ fn write_spent<W: Write>(
 {
     let turned_away = table.turned_away;
     let seats = bound_of(settings, table.nominal);
+    let time = end.saturating_sub(table.since);
     write!(out, " {turned_away}")?;
-    write_used(out, table.table.all.sums.seat_time, seats, end)
+    write_used(out, table.table.all.sums.seat_time, seats, time)
 }
 
 /// Writes the columns of a level behind its name, each with a blank before it, where all were over at this time.

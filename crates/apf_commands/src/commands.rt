@@ -52,6 +52,12 @@ const SET: &str = "Runs a second cluster with this change, see below; may be giv
 /// What help says of the objects of a second cluster.
 const AGAINST: &str = "Runs a second cluster, made of these objects";
 
+/// What help says of the time before which nothing is counted.
+const WARM_UP: &str = "Counts no request that comes before this time, as 60s";
+
+/// What help says of the file of a picture.
+const PICTURE: &str = "Draws the levels over time into this file, as SVG";
+
 /// What help says below the commands: the program's statuses, and how to begin.
 const HELP: &str = "\
 Status:
@@ -409,13 +415,15 @@ fn with_cluster_print<'a>(alloc: Global, command: Command<'a>) -> Result<Command
         ))
 }
 
-// The same, and a second cluster.
+// The same, a second cluster, from when on requests are counted, and a picture.
 fn with_cluster<'a>(alloc: Global, command: Command<'a>) -> Result<Command<'a>, AllocError>
     ensures { IfOk result (AddsRules (rules_of of_kind.Cluster) command.entry) }
 {
     with_cluster_print(alloc, command)?
         .arg(repeated(alloc, "set", "KEY=VALUE", SET))?
-        .arg(option(alloc, "against", "OBJECTS", AGAINST))
+        .arg(option(alloc, "against", "OBJECTS", AGAINST))?
+        .arg(option(alloc, "warm-up", "TIME", WARM_UP))?
+        .arg(option(alloc, "picture", "FILE", PICTURE))
 }
 
 // A command with the arguments of this kind behind its own.

@@ -378,6 +378,8 @@ Where flows waited or were turned away, a line of names, and a line for each of 
   LEVEL REQUESTS EXECUTED REJECTED TIMED-OUT MEDIAN P99 LONGEST SCHEMA DISTINGUISHER
 Those come first that waited longest, and of one wait those of which most requests were lost. A flow
 of a level behind the first 100000 that arrive there has no line: it counts in that of its level.
+With --warm-up TIME all this is of the requests that come that long after the first one, and of the
+limits and the time from then on. Those before run all the same, so the levels are busy by then.
 The last lines say what an audit log does not tell, and what was taken in its place.
 
 With --set or --against a second cluster runs beside the first one, with the same requests. It is
@@ -395,6 +397,9 @@ first whose longest wait changes most. With --json each object has its \"cluster
 
 With --json each line is a JSON object, with times in microseconds, and seatTime in place of USED:
   {\"level\": ..}   of a level          {\"flowOf\": ..}   of a flow of that level
+
+With --picture FILE the levels are drawn over time, as SVG: the seats in use, the limit, who waits,
+and who was rejected. Where a second cluster runs, each level has two strips.
 
 With --level NAME --trace the requests of the level NAME are printed as a trace, for simulate, fates
 and picture, and nothing is simulated. Their times are from the first request of the whole log.

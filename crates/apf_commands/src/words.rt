@@ -119,7 +119,8 @@ pub enum Arguments<'a> {
     },
     /// The names of a file of objects and of an audit log, the words of a patience, how many seats the server has, 1 to 1,000,000, how
     /// many flows are told, 0 to 1,000,000, whether JSON is asked for, whether no seats are lent, the name of a level, whether its
-    /// requests are asked for as a trace, and of a second cluster the changes, in their order, and the name of the file of its objects.
+    /// requests are asked for as a trace, of a second cluster the changes, in their order, and the name of the file of its objects, the
+    /// words of the time from which on requests are counted, and the name of the file of a picture.
     Cluster {
         objects: &'a str,
         log: &'a str,
@@ -132,6 +133,8 @@ pub enum Arguments<'a> {
         trace: bool,
         changes: Vec<&'a str>,
         against: Option<&'a str>,
+        warm_up: Option<&'a str>,
+        picture: Option<&'a str>,
     },
 }
 
@@ -471,6 +474,8 @@ fn cluster_of<'a>(alloc: Global, matches: &ArgMatches<'a>) -> Result<Arguments<'
         trace: flag_of(matches, "trace"),
         changes,
         against: option_of(matches, "against"),
+        warm_up: option_of(matches, "warm-up"),
+        picture: option_of(matches, "picture"),
     })
 }
 

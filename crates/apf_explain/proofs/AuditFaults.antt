@@ -53,16 +53,16 @@ instant_by key d (Some v) at h = let none = rw at at h in rw (into (as_str v) no
     into : (o : Option (List ℕ)) → option_and_then instant_of o ≡ None → option_and_then instant_of o ≡ None
     into o e = e
 
-name_at : (v : Option Data) → is_none v ≡ false → option_and_then short (option_and_then as_str v) ≡ None → IsUnwantedThere (Name max_name) v
+name_at : (v : Option Data) → is_none v ≡ false → option_and_then (short max_name) (option_and_then as_str v) ≡ None → IsUnwantedThere (Name max_name) v
 name_at None there h = absurd cc
 name_at (Some v) there h = rw h refl
 
-user_by : (d : Data) (o : Option Data) → is_none (name_found d o) ≡ false → option_and_then short (name_by d o) ≡ None → IsUnwantedThere (Name max_name) (name_found d o)
+user_by : (d : Data) (o : Option Data) → is_none (name_found d o) ≡ false → option_and_then (short max_name) (name_by d o) ≡ None → IsUnwantedThere (Name max_name) (name_found d o)
 unfolding text_within text_at
 user_by d None there h = of_user (get (codes "user") d) there h
   where
     of_user : (o : Option Data) → is_none (option_and_then (get (codes "username")) o) ≡ false
-        → option_and_then short (option_and_then (λ (u : Data). option_and_then as_str (get (codes "username") u)) o) ≡ None
+        → option_and_then (short max_name) (option_and_then (λ (u : Data). option_and_then as_str (get (codes "username") u)) o) ≡ None
         → IsUnwantedThere (Name max_name) (option_and_then (get (codes "username")) o)
     of_user None there h = absurd cc
     of_user (Some u) there h = name_at (get (codes "username") u) there h

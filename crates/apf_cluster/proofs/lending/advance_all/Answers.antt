@@ -3,7 +3,7 @@ use Rattle.std.proofs.Common.{◌≡◌, ◌∙◌, ◌<◌, ◌≤◌, ℕ, Lis
 use Rattle.std.specs.Prelude.{slice_get}
 use Rattle.std.proofs.lemmas.List.{length-set}
 use Rattle.std.proofs.lemmas.Option.{slice_get_read}
-use Rattle.apf_simulator.specs.Lanes.{IsLived}
+use Rattle.apf_cluster.specs.Runs.{IsAlive}
 use Rattle.apf_cluster.specs.declared.lanes.LevelLane.{LevelLane}
 use Rattle.apf_cluster.proofs.Ending.{FirstSo, GoneOn, all_so, get_other, gone_more}
 use Rattle.apf_cluster.proofs.Zips.{all_set}
@@ -23,7 +23,7 @@ loop-level-preserved c =
     record {
       still = length-set lanes n is ∙ i.still;
       in_time = all_set (λ (v : LevelLane). v.lane.state.slots.time ≤ at) lanes n is c.in_ok-advance_on.ensures.time i.in_time;
-      lived = all_set (λ (v : LevelLane). IsLived v.lane) lanes n is c.in_ok-advance_on.ensures.lived i.lived;
+      lived = all_set IsAlive lanes n is c.in_ok-advance_on.ensures.lived i.lived;
       each = subst (λ (k : ℕ). FirstSo GoneOn k before (set lanes n is)) (sym (add-one n))
           (gone_more n before lanes was is low (i.rest n (omega arith)) here c.in_ok-advance_on.ensures.goes c.in_ok-advance_on.ensures.same i.each);
       rest = λ j above. get_other lanes n j is (λ e. absurd (omega (arith, e, above))) ∙ i.rest j (omega (arith, above));

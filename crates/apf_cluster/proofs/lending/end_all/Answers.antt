@@ -3,9 +3,9 @@ use Rattle.std.proofs.Common.{◌≡◌, ◌∙◌, ◌<◌, ◌≤◌, ℕ, suc
 use Rattle.std.specs.Prelude.{All, slice_get}
 use Rattle.std.proofs.lemmas.List.{length-set}
 use Rattle.std.proofs.lemmas.Option.{slice_get_read}
-use Rattle.apf_simulator.specs.Lanes.{IsLived}
 use Rattle.apf_lending.specs.Claims.{IsClaim}
 use Rattle.apf_lending.specs.declared.claim.Claim.{Claim}
+use Rattle.apf_cluster.specs.Runs.{IsAlive}
 use Rattle.apf_cluster.specs.declared.lanes.LevelLane.{LevelLane}
 use Rattle.apf_cluster.proofs.Ending.{Ended, FirstSo, all_claims, all_so, ended_more, get_other}
 use Rattle.apf_cluster.proofs.Zips.{all_set}
@@ -29,7 +29,7 @@ loop-level-preserved c =
       still = length-set lanes n is ∙ i.still;
       range = subst (All IsClaim) (sym c.in-Ok.ensures.items) (all_claims claims claim i.range c.in_ok-claim.ensures.range);
       in_time = all_set (λ (v : LevelLane). v.lane.state.slots.time ≤ at) lanes n is c.in_ok-claim.ensures.time i.in_time;
-      lived = all_set (λ (v : LevelLane). IsLived v.lane) lanes n is c.in_ok-claim.ensures.lived i.lived;
+      lived = all_set IsAlive lanes n is c.in_ok-claim.ensures.lived i.lived;
       each = subst (λ (k : ℕ). FirstSo (Ended at c.push.new.self.items) k before (set lanes n is)) (sym (add-one n))
           (subst (λ (l : List Claim). FirstSo (Ended at l) (suc n) before (set lanes n is)) (sym c.in-Ok.ensures.items)
           (ended_more at n before lanes claims claim was is (sym i.many) low (i.rest n (omega arith)) here c.in_ok-claim.ensures.goes c.in_ok-claim.ensures.same i.each));

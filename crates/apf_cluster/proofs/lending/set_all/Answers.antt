@@ -3,8 +3,7 @@ use Rattle.std.proofs.Common.{◌≡◌, ◌∙◌, ◌<◌, ◌≤◌, ℕ, Lis
 use Rattle.std.specs.Prelude.{slice_get}
 use Rattle.std.proofs.lemmas.List.{length-set}
 use Rattle.std.proofs.lemmas.Option.{slice_get_read}
-use Rattle.apf_simulator.specs.Lanes.{IsLived}
-use Rattle.apf_cluster.specs.Runs.{IsSetBy}
+use Rattle.apf_cluster.specs.Runs.{IsAlive, IsSetBy}
 use Rattle.apf_cluster.specs.declared.lanes.LevelLane.{LevelLane}
 use Rattle.apf_cluster.proofs.Ending.{FirstSo, Set, all_so, get_other, set_more_so}
 use Rattle.apf_cluster.proofs.Zips.{all_set}
@@ -26,7 +25,7 @@ loop-level-preserved c =
     record {
       still = length-set lanes n is ∙ i.still;
       in_time = all_set (λ (v : LevelLane). v.lane.state.slots.time ≤ at) lanes n is c.in_ok-set_one.ensures.time i.in_time;
-      lived = all_set (λ (v : LevelLane). IsLived v.lane) lanes n is c.in_ok-set_one.ensures.lived i.lived;
+      lived = all_set IsAlive lanes n is c.in_ok-set_one.ensures.lived i.lived;
       each = subst (λ (k : ℕ). FirstSo (Set at limits) k before (set lanes n is)) (sym (add-one n))
           (set_more_so at n limits before lanes was is low (i.rest n (omega arith)) here done i.each);
       rest = λ j above. get_other lanes n j is (λ e. absurd (omega (arith, e, above))) ∙ i.rest j (omega (arith, above));

@@ -2,7 +2,6 @@
 use Rattle.std.proofs.Common.{◌≡◌, ◌-◌, ℕ, List, Some, sym, subst, rules}
 use Rattle.std.specs.Io.KnownBytes.{Appends}
 use Rattle.apf_audit.specs.AuditEvent.{Event, event}
-use Rattle.apf_audit.specs.TraceText.{line_text}
 use Rattle.apf_objects.specs.Cluster.{ClusterSaid, cluster_view}
 use Rattle.apf_cluster.specs.Requests.{level_of, name_of, schema_at}
 use Rattle.apf_cluster.specs.Traces.{line_of}
@@ -10,7 +9,6 @@ use Rattle.apf_cluster.proofs.Written.{one_line}
 use Rattle.apf_cluster.proofs.tracing.write_taken.Goals as goal
 
 pub returns : goal.returns
-unfolding line_text
 returns g c =
     let said : ClusterSaid = cluster_view c.args.way.cluster.now in
     let e : Event = event c.args.taken.now in

@@ -99,14 +99,14 @@ def is_opened(level):
     return level["exempt"] or not level["queuing"] or not dealer_fault(*level["queuing"][:2])
 
 
-def two_clusters(one, other, read, patience, lends):
-    """What the levels of both clusters come to by what was read of a log."""
+def two_clusters(one, other, read, patience, lends, since=0):
+    """What the levels of both clusters come to by what was read of a log, from a time on."""
     start = read.requests[0][0] if read.requests else 0
     both = (one, read), (other, beside(read, other))
-    return [parts_of(it.levels, it.schemas, its, it.seats, patience, lends, start)[0] for it, its in both]
+    return [parts_of(it.levels, it.schemas, its, it.seats, patience, lends, start, since)[0] for it, its in both]
 
 
-met = dict.fromkeys(["refused", "a fault", "changed", "a level of one alone", "a level of the other alone", "another level", "a flow of one alone", "a flow of the other alone", "lent", "more", "fewer"], 0)
+met = dict.fromkeys(["refused", "a fault", "changed", "a level of one alone", "a level of the other alone", "another level", "a flow of one alone", "a flow of the other alone", "lent", "more", "fewer", "left out"], 0)
 
 
 def meet(mine, others, text):
@@ -132,6 +132,8 @@ for number in range(CHANGED):
     flows, lends = draw.choice([0, 1, 3, 1_000_000]), draw.random() < 0.7
     words = ["cluster", files("objects.json", json.dumps(objects)), files("audit.log", content), str(patience), "--seats", str(seats), "--flows", str(flows)]
     words += [] if lends else ["--no-lending"]
+    since = draw.choice([0, 0, 0, 1, 300_000, PERIOD])
+    words += ["--warm-up", str(since)] if since else []
     second = first
     if draw.random() < 0.4:
         others, *second = drawn_cluster()
@@ -158,12 +160,13 @@ for number in range(CHANGED):
         tally.check(f"{name}: a fault", run(program, words), (1, b"", f"{read.fault}\n".encode()))
         met["a fault"] += 1
         continue
-    mine, others = two_clusters(one, other, read, patience, lends)
+    mine, others = two_clusters(one, other, read, patience, lends, since)
     text = both_tables(mine, others, flows)
     tally.check(name, run(program, words), (0, text.encode(), notes_of(read)))
     objects = "".join(f"{json_text(it)}\n" for it in both_objects(mine, others, flows))
     tally.check(f"{name}, as JSON", run(program, [*words, "--json"]), (0, objects.encode(), notes_of(read)))
     meet(mine, others, text)
+    met["left out"] += any(0 < len(it.counted) < len(it.run.trace) for it in mine)
 if CHANGED >= 100:
     tally.check(f"each was met: {met}", [it for it, often in met.items() if not often], [])
 

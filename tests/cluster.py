@@ -34,7 +34,7 @@ def said(name, words, parts, flows, notes):
     tally.check(f"{name}, as JSON", (status, objects_in(out), err), (0, objects_of(parts, flows), notes))
 
 
-met = {"requests": 0, "rejected": 0, "timedOut": 0, "waited": 0, "turned away": 0, "several levels": 0, "short": 0, "long": 0}
+met = {"requests": 0, "rejected": 0, "timedOut": 0, "waited": 0, "turned away": 0, "several levels": 0, "short": 0, "long": 0, "left out": 0}
 for number in range(CLUSTERS):
     objects, levels, schemas = clusters.cluster()
     content = clusters.log([1, 1000, 500_000])
@@ -51,6 +51,14 @@ for number in range(CLUSTERS):
     said(f"{name}, no lending", [*words, "--no-lending"], parts, flows, notes_of(read))
     lent, _ = parts_of(levels, schemas, read, seats, patience, lends=True)
     tally.check(name, run(program, words), (0, table(lent, flows).encode(), notes_of(read)))
+    if number % 2:
+        # from a time on, up to one behind the last request
+        last = max((received for received, *_ in read.requests), default=0) - min((received for received, *_ in read.requests), default=0)
+        since = draw.choice([0, 1, last // 2, last, last + 1, draw.randint(0, last)])
+        late, _ = parts_of(levels, schemas, read, seats, patience, lends=True, since=since)
+        said(f"{name}, from {since} on", [*words, "--warm-up", f"{since}us"], late, flows, notes_of(read))
+        before, behind = (sum(len(it.counted) for it in those) for those in (lent, late))
+        met["left out"] += 0 < behind < before
     alone = [it.whole() for it in parts]
     for key in ("requests", "rejected", "timedOut", "waited"):
         met[key] += sum(it[key] for it in alone)

@@ -87,7 +87,7 @@ def drawn_log():
     return clusters.lines(clusters.event(*it) for it in sorted(coming))
 
 
-met = dict.fromkeys(["adjusted", "moved", "borrowed", "lent", "over the limit", "exempt", "behind the last", "quiet", "least", "part", "factor", "most", "gave up"], 0)
+met = dict.fromkeys(["adjusted", "moved", "borrowed", "lent", "over the limit", "exempt", "behind the last", "quiet", "least", "part", "factor", "most", "gave up", "warmed up"], 0)
 
 
 def meet(parts, lender):
@@ -143,6 +143,14 @@ for number in range(LENT):
     tally.check(name, run(program, words), (0, table(parts, 1_000_000).encode(), notes_of(read)))
     status, out, err = run(program, [*words, "--json"])
     tally.check(f"{name}, as JSON", (status, objects_in(out), err), (0, objects_of(parts, 1_000_000), notes_of(read)))
+    if number % 3 == 0:
+        since = draw.choice([1, PERIOD - 1, PERIOD, PERIOD + 1, draw.randrange(4 * PERIOD), 100 * PERIOD])
+        late, _ = parts_of(levels, schemas, read, seats, patience, lends=True, since=since)
+        words_since = [*words, "--warm-up", str(since)]
+        tally.check(f"{name}, from {since} on", run(program, words_since), (0, table(late, 1_000_000).encode(), notes_of(read)))
+        out = run(program, [*words_since, "--json"])[1]
+        tally.check(f"{name}, from {since} on, as JSON", objects_in(out), objects_of(late, 1_000_000))
+        met["warmed up"] += any(it.limits and it.limits_since()[0] != it.limits[0] for it in late)
     meet(parts, lender)
     between(f"{name}, between the limits of objects", words, objects_in(out))
 if LENT >= 100:
@@ -208,6 +216,13 @@ lines = ["free 5 - 4 4 0 0 0 - 0us 0us 0us", "busy 5 5..10 12 12 0 0 0 120% 10s 
 worked("an exempt level", [free, {**busy, "lendable": 0}], [("free", 4, 0, 15), some], lines)
 lines = ["none 0 1..4 3 3 0 0 0 225% 10s 10s 10s", f"quiet 10 6..10 {NOTHING}"]
 worked("a level without shares", [level_of("none", 0, QUEUE), quiet], [("none", 3, 0, 30)], lines)
+# counted from a time on: five run for 30 s, and of three that come at 12 s two fit the limit of 7, and one waits until they are over. From 20 s on it is 8
+coming = [("busy", 5, 0, 30), ("busy", 3, 12, 5)]
+for time, quiet_limits, busy_limits, used in (("5s", "2..5", "5..8", 17), ("9.999999s", "2..5", "5..8", 24), ("10s", "2..3", "7..8", 25), ("12s", "2..3", "7..8", 30)):
+    lines = [f"quiet 5 {quiet_limits} {NOTHING}", f"busy 5 {busy_limits} 3 3 0 0 0 {used}% 0us 5000ms 5000ms"]
+    worked(f"from {time} on", [quiet, busy], coming, lines, words=["--warm-up", time])
+lines = ["quiet 5 2..3 0 0 0 0 0 - 0us 0us 0us", "busy 5 7..8 0 0 0 0 0 - 0us 0us 0us"]
+worked("from behind the last request on", [quiet, busy], coming, lines, words=["--warm-up", "12.000001s"])
 # ten thousand periods
 lines = [f"quiet 5 5 {NOTHING}", "busy 5 5 2 2 0 0 0 0% 0us 0us 0us"]
 worked("a day", [quiet, busy], [("busy", 1, 0, 1), ("busy", 1, 100_000, 1)], lines)

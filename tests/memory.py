@@ -57,6 +57,7 @@ few = files(
     '{"apiVersion":"flowcontrol.apiserver.k8s.io/v1","kind":"FlowSchema","metadata":{"name":"all"},"spec":{"priorityLevelConfiguration":{"name":"low"},'
     '"distinguisherMethod":{"type":"ByUser"},"rules":[{"subjects":[{"kind":"User","user":{"name":"*"}}],"nonResourceRules":[{"verbs":["*"],"nonResourceURLs":["*"]}]}]}}]}',
 )
+drawn = os.path.join(files.folder.name, "drawn.svg")
 changes = ["--set", "low.seats=1", "--set=schema:all.by=none", "--set", "schema:all.precedence=+1", "--set", "user:b.rate=9x", "--set", "schema:all.rate=2x"]
 who = ["--user", "alice", "--groups", "system:authenticated,dev", "--verb", "list"]
 # an object on lines of its own, and an event, each in the place of a trace; and a trace in the place of objects
@@ -67,10 +68,12 @@ roomy = files("roomy", '{"limit":3,"queues":1,"handSize":1,"queueLengthLimit":10
 
 
 def refusals(words, ample):
-    """What a run may answer that is refused memory: a worker needs some to start, and the first lines of a log may have been answered."""
+    """What a run may answer that is refused memory: a worker needs some to start, and the first lines of a log may have been answered. A file that is written
+    comes behind the lines."""
     workers = int(words[3]) if words[0] == "run" else 0
     lines = ample[1].splitlines(keepends=True) if "--log" in words else []
     before = [(WANT[0], b"".join(lines[:number]), WANT[2]) for number in range(1, len(lines) + 1)]
+    before += [(WANT[0], ample[1], WANT[2])] if "--picture" in words else []
     return [WANT] + before + [(3, b"", b"apf: worker %d could not start\n" % number) for number in range(workers)]
 
 
@@ -100,6 +103,7 @@ for words, status in (
     (["match", cluster, "--log", log], 0),
     (["cluster", few, log, "5us"], 0),
     (["cluster", few, log, "5us", *changes], 0),
+    (["cluster", few, log, "5us", "--set", "low.seats=2", "--warm-up", "1us", "--picture", drawn], 0),
     (["cluster", few, log, "5us", "--against", few, "--json", "--set", "low.response=Reject"], 0),
     (["cluster", few, log, "5us", "--set", "low.share=5"], 2),
     (["cluster", few, log, "5us", "--set", "high.seats=5"], 2),

@@ -307,6 +307,15 @@ def judged(line, text, choice):
 Read = collections.namedtuple("Read", "requests unnamed is_cut fault")
 
 
+class Handed(tuple):
+    """A request that is handed out, with the line of its event."""
+
+    def __new__(cls, line, parts):
+        self = super().__new__(cls, parts)
+        self.line = line
+        return self
+
+
 @functools.lru_cache(maxsize=2)
 def read_of(content, choice=EVERY, window=WINDOW):
     """What is read of a log: the requests that are handed out, each with its arrival from 1970 on, its run, its flow and whether it was turned
@@ -321,7 +330,7 @@ def read_of(content, choice=EVERY, window=WINDOW):
         received, line, run, flow = heapq.heappop(held)
         if requests and received - requests[0][0] > ARRIVAL:
             raise AuditFault(BAD_ARRIVAL, line, received - requests[0][0])
-        requests.append((received, runs.estimate(flow) if run is None else run, flow, run is None))
+        requests.append(Handed(line, (received, runs.estimate(flow) if run is None else run, flow, run is None)))
         return received, line
 
     try:

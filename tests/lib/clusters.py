@@ -3,13 +3,13 @@ cluster, and the independent lending of seats. A second cluster stands beside th
 
 import json
 
-from audit import Choice, Flow, namespace_of, read_of, text_at
+from audit import Choice, Flow, Handed, namespace_of, read_of, text_at
 from audits import NOON, Logs, time_text
 from jsontext import json_text
-from lending import MOST, Lender, bounds_of, limit_of
+from lending import MOST, PERIOD, Lender, bounds_of, limit_of
 from level import hash_of
 from matching import distinguisher_of, schema_of
-from simulation import Run, flows_of, nearest_rank, shown_rank
+from simulation import Run, nearest_rank, shown_rank
 
 API = "flowcontrol.apiserver.k8s.io/v1"
 
@@ -197,14 +197,33 @@ def request_of(received, run_for, flow):
 
 
 class Part:
-    """What the requests of a level came to: its run, how many of them the log's server turned away, and the limits that it had, none if it is exempt."""
+    """What the requests of a level came to: its run, and the limits that it had, none if it is exempt. Those are counted that come from a time on, with how
+    many of them the log's server turned away."""
 
-    def __init__(self, level, nominal, requests, start, patience, until):
-        self.level, self.nominal = level, nominal
-        self.turned_away = sum(away for *_, away in requests)
+    def __init__(self, level, nominal, requests, start, patience, until, since=0):
+        self.level, self.nominal, self.since = level, nominal, since
+        self.turned_away = sum(away for received, *_, away in requests if received - start >= since)
         trace = [request_of(received - start, run_for, flow) for received, run_for, flow, _ in requests]
         self.run = Run(config_of(level, nominal), trace, patience, "time", until)
         self.limits = [] if level["exempt"] else [limit_of(nominal)]
+        self.counted = [it for it, request in enumerate(trace) if request["arrivesAt"] >= since]
+        self.lines = [it.line for it in requests]
+
+    def flows(self):
+        """The counted requests of each flow, in the order of their first lines."""
+        of = {}
+        for it in sorted(self.counted, key=lambda it: self.lines[it]):
+            of.setdefault(self.run.trace[it]["hash"], []).append(it)
+        return [*of.values()]
+
+    def over(self, it):
+        """When a request was over: when it had run, or given up, or was rejected."""
+        run, asked = self.run, self.run.trace[it]
+        return run.started[it] + asked["runsFor"] if it in run.started else run.waited_until.get(it, asked["arrivesAt"])
+
+    def limits_since(self):
+        """The limits that it had from that time on. They are set at the end of each period."""
+        return self.limits[min(self.since // PERIOD, len(self.limits) - 1) :] if self.limits else []
 
     def figures(self, members):
         run = self.run
@@ -223,7 +242,7 @@ class Part:
         }
 
     def whole(self):
-        return self.figures(range(len(self.run.trace)))
+        return self.figures(self.counted)
 
 
 def flow_by(schemas, event, asked):
@@ -250,12 +269,13 @@ def read_by(schemas, content, others=None):
 def beside(read, scenario):
     """What was read of a log as it comes to a second cluster: each request as often as is said of its user and its schema."""
     requests = []
-    for received, run_for, flow, away in read.requests:
-        requests += [(received, run_for, flow.beside, away)] * scenario.rate_of(flow.user, flow.beside.schema)
+    for handed in read.requests:
+        received, run_for, flow, away = handed
+        requests += [Handed(handed.line, (received, run_for, flow.beside, away))] * scenario.rate_of(flow.user, flow.beside.schema)
     return read._replace(requests=requests)
 
 
-def parts_of(levels, schemas, read, seats, patience, lends, start=None):
+def parts_of(levels, schemas, read, seats, patience, lends, start=None, since=0):
     """What the levels come to by what was read of a log, each with its nominal limit all along, or with seats that are lent; and who lends them. The times
     are those since the first request of the log."""
     if start is None:
@@ -264,7 +284,7 @@ def parts_of(levels, schemas, read, seats, patience, lends, start=None):
     parts = []
     for level in levels:
         mine = [it for it in read.requests if of[it[2].schema] == level["name"]]
-        parts.append(Part(level, bounds_of(level, levels, seats).nominal, mine, start, patience, (0,) if lends else None))
+        parts.append(Part(level, bounds_of(level, levels, seats).nominal, mine, start, patience, (0,) if lends else None, since))
     if not lends:
         return parts, None
     lender = Lender(levels, [it.run for it in parts], seats)
@@ -303,7 +323,7 @@ def told_flows(parts):
     """The flows that waited or were turned away, those first that waited longest, each with its part and its names."""
     found = []
     for place, part in enumerate(parts):
-        for number, members in enumerate(flows_of(part.run.trace).values()):
+        for number, members in enumerate(part.flows()):
             figures = part.figures(members)
             lost = figures["rejected"] + figures["timedOut"]
             if figures["waited"] or lost:
@@ -323,16 +343,16 @@ FLOW_NAMES = "flow-of requests executed rejected timed-out median p99 longest sc
 
 
 def end_of(parts):
-    """When all was over."""
-    return max((it.run.end() for it in parts), default=0)
+    """When all that is counted was over."""
+    return max((part.over(it) for part in parts for it in part.counted), default=0)
 
 
 def level_columns(part, end):
     """What stands behind the name of a level, where all was over at this time."""
     figures = part.whole()
-    possible = 0 if part.level["exempt"] else limit_of(part.nominal) * end
+    possible = 0 if part.level["exempt"] else limit_of(part.nominal) * max(end - part.since, 0)
     used = f"{100 * figures['seatTime'] // possible}%" if possible else "-"
-    return [*map(str, [part.nominal, limits_text(part.limits), *counts(figures), part.turned_away]), used, *times(figures)]
+    return [*map(str, [part.nominal, limits_text(part.limits_since()), *counts(figures), part.turned_away]), used, *times(figures)]
 
 
 def flow_columns(figures):
@@ -369,7 +389,8 @@ def as_json(figures):
 
 
 def level_members(part):
-    limits = {"leastLimit": min(part.limits), "greatestLimit": max(part.limits)} if part.limits else {}
+    had = part.limits_since()
+    limits = {"leastLimit": min(had), "greatestLimit": max(had)} if had else {}
     return {"level": part.level["name"], "nominal": part.nominal, **limits, "log429s": part.turned_away, **as_json(part.whole())}
 
 
@@ -410,7 +431,7 @@ def flows_in(parts):
     """All flows of a cluster, by their names."""
     found = {}
     for place, part in enumerate(parts):
-        for number, members in enumerate(flows_of(part.run.trace).values()):
+        for number, members in enumerate(part.flows()):
             names = part.run.trace[members[0]]["names"]
             found[names] = Told((place, number), part, part.figures(members), names)
     return found

@@ -1,5 +1,5 @@
 -- Lines that are held.
-use Rattle.std.specs.Prelude.{◌≡◌, ℕ, List, ◌∷◌, ◌++◌, length, Bool, if◌then◌else◌, option_map, IsPermutation, Vec}
+use Rattle.std.specs.Prelude.{ℕ, option_map, Vec}
 use Rattle.std.specs.declared.alloc.Global.{Global}
 use Rattle.apf_request_lines.specs.Lines.{Request}
 use Rattle.apf_request_halves.specs.declared.held.Held.{Held}
@@ -21,9 +21,3 @@ placed (id, held) = record {
     runs_for = held.runs_for;
   };
 }
-
--- a line is held beside the others, but for one where one had to go
-pub record IsHeld (line : Placed) (old : List Placed) (is_gone : Bool) (new : List Placed) : Type 0 where
-  pub gone : List Placed
-  pub all : IsPermutation (line ∷ old) (new ++ gone)
-  pub count : length gone ≡ (if is_gone then 1 else 0)

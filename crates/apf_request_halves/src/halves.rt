@@ -1,8 +1,9 @@
 //! The lines of a log, of which each is answered to who asks for its id.
 
-ghost use Rattle.std.specs.Prelude.{◌≡◌, ◌≤◌, ◌<◌, ◌+◌, ◌-◌, ◌^◌, length, max, min, if◌then◌else◌, ℕ, List, IfOk, []};
+ghost use Rattle.std.specs.Prelude.{◌≡◌, ◌≤◌, ◌<◌, ◌+◌, ◌-◌, ◌^◌, length, max, min, nat_le, ◌||◌, false, if◌then◌else◌, ℕ, List, Option, IfOk, []};
+ghost use Rattle.std.specs.NonZero.{non_zero_usize_get};
 ghost use Rattle.apf_lines.specs.Lines.{HasNoLf};
-ghost use Rattle.apf_request_halves.specs.Reading.{AnswersMore, GoesMore, HasRead, TakesHeld, Took, more_lines};
+ghost use Rattle.apf_request_halves.specs.Reading.{AnswersMore, GoesMore, HasRead, IsWithout, TakesHeld, Took, max_held, more_lines, most_lines};
 
 use crate::fault::HalvesFault;
 use crate::held::{Store, take};
@@ -46,6 +47,23 @@ fn limit_behind(limit: u64, number: u64) -> u64
     limit.max(number.saturating_add(REACH))
 }
 
+// Up to which line more are read, once one id more was not found.
+fn limit_further(limit: u64) -> u64
+    ensures { result ≡ min (limit + more_lines) most_lines }
+{
+    limit.saturating_add(MORE_LINES)
+}
+
+// How many lines are held at most.
+fn most_held() -> NonZeroUsize
+    ensures { non_zero_usize_get result ≡ max_held }
+{
+    match NonZeroUsize::new(HELD) {
+        Some(held) => held,
+        None => NonZeroUsize::MIN,
+    }
+}
+
 // 1 if it holds, and else 0.
 fn one_if(holds: bool) -> u64
     ensures value { result ≡ (if holds then 1 else 0) }
@@ -63,12 +81,13 @@ pub struct RequestHalves {
     number: u64,
     dropped: u64,
     limit: u64,
+    is_ended: bool,
 }
 
 impl Model for RequestHalves {
-    ghost use Rattle.std.specs.Prelude.{◌≤◌, map};
+    ghost use Rattle.std.specs.Prelude.{◌≡◌, ◌≤◌, map};
     ghost use Rattle.apf_request_halves.specs.Held.{placed};
-    ghost use Rattle.apf_request_halves.specs.Reading.{HalvesView};
+    ghost use Rattle.apf_request_halves.specs.Reading.{HalvesView, max_held};
 
     ghost Value = { HalvesView };
 
@@ -78,9 +97,10 @@ impl Model for RequestHalves {
       number = h.number;
       dropped = h.dropped;
       limit = h.limit;
+      is_ended = h.is_ended;
     } };
 
-    ghost invariant = { λ h. h.dropped ≤ h.number };
+    ghost invariant = { λ h. (h.dropped ≤ h.number) × (h.store.cap ≡ max_held) };
 }
 
 impl RequestHalves {
@@ -90,20 +110,17 @@ impl RequestHalves {
     ///
     /// `AllocError` if memory was refused.
     pub fn new(alloc: Global) -> Result<RequestHalves, AllocError>
-        ensures { IfOk result (λ h. HasRead [] [] h) }
+        ensures { IfOk result (λ h. (left : Option (List ℕ)) → HasRead [] [] left h) }
     {
         let lines = Lines::new(alloc, MAX_LINE)?;
-        let held = match NonZeroUsize::new(HELD) {
-            Some(held) => held,
-            None => NonZeroUsize::MIN,
-        };
         Ok(RequestHalves {
             alloc,
             lines,
-            store: LruCache::sparse(alloc, held)?,
+            store: LruCache::sparse(alloc, most_held())?,
             number: 0,
             dropped: 0,
             limit: REACH,
+            is_ended: false,
         })
     }
 
@@ -169,14 +186,23 @@ impl RequestHalves {
         }
     }
 
+    // Whether nothing more is read for an id.
+    fn is_over(&self) -> bool
+        ensures { result ≡ (self.now.is_ended || nat_le self.now.limit self.now.number) }
+    {
+        self.is_ended || self.number >= self.limit
+    }
+
     // Reads more, where no whole line is there.
     fn fill<R: Read>(&mut self, input: &mut R) -> Result<Turn, HalvesFault>
-        requires { HasNoLf self.old.lines.kept }
+        requires whole { HasNoLf self.old.lines.kept }
+        requires goes_on { self.old.is_ended ≡ false }
         ensures { (id : List ℕ) → GoesMore id (R.remaining input.old) (R.remaining input.new) self.old result self.new }
     {
         match self.lines.fill(input) {
             Ok(count) => {
                 if count == 0 {
+                    self.is_ended = true;
                     return Ok(Turn::Over);
                 }
                 return Ok(Turn::More);
@@ -194,7 +220,7 @@ impl RequestHalves {
     fn turn<R: Read>(&mut self, id: &[u8], input: &mut R) -> Result<Turn, HalvesFault>
         ensures { GoesMore id.now (R.remaining input.old) (R.remaining input.new) self.old result self.new }
     {
-        if self.number >= self.limit {
+        if self.is_over() {
             return Ok(Turn::Over);
         }
         match self.lines.cut() {
@@ -220,13 +246,13 @@ impl RequestHalves {
         id: &[u8],
         input: &mut R,
     ) -> Result<Option<RequestLine>, HalvesFault>
-        ensures { AnswersMore id.now (R.remaining input.old) (R.remaining input.new) self.old result self.new }
+        ensures { IsWithout id.now self.old.held → AnswersMore id.now (R.remaining input.old) (R.remaining input.new) self.old result self.new }
     {
         for _ in 0..u64::MAX {
             match self.turn(id, input) {
                 Ok(Turn::Found(line)) => return Ok(Some(line)),
                 Ok(Turn::Over) => {
-                    self.limit = self.limit.saturating_add(MORE_LINES);
+                    self.limit = limit_further(self.limit);
                     return Ok(None);
                 }
                 Ok(Turn::More) => {}
@@ -238,9 +264,11 @@ impl RequestHalves {
 
     /// The line of the request that has this id, and each line once. It is one of those that are held, or more lines are read
     /// until it comes, and those of other ids are held: 131,072 at most, and then the one that was held the longest has to go.
-    /// Where a later line has the same id as one that is held it takes that one's place. `None` where the input is at its end,
-    /// or where as many lines were read as the limit says: 65,536 behind the last one that was answered, and 64 more for each
-    /// id that was not found. A line that no LF ends is not read, and one of more than 1,048,576 bytes is passed over.
+    /// Where a later line has the same id as one that is held it takes that one's place. `None` only where none of the lines
+    /// that are held has the id, and the input is at its end, or as many lines were read as the limit says: 65,536 at first;
+    /// 65,536 behind each line that was answered, if that is more; and 64 more for each id that was not found. Once the input
+    /// was at its end nothing more is read of it. A line that no LF ends is not read, and one of more than 1,048,576 bytes is
+    /// passed over.
     ///
     /// # Errors
     ///

@@ -3,7 +3,7 @@
 ghost use Rattle.std.specs.Prelude.{◌≡◌, ◌≢◌, map, IfOk, IfErr, Err, None, bytes_eq};
 ghost use Rattle.apf_request_lines.specs.Lines.{line_read};
 ghost use Rattle.apf_request_halves.specs.Held.{placed};
-ghost use Rattle.apf_request_halves.specs.Reading.{Judges};
+ghost use Rattle.apf_request_halves.specs.Reading.{Judges, max_held};
 
 use crate::held::{Held, Store, hold};
 use apf_request_lines::{RequestLine, RequestLineFault, read_line};
@@ -43,8 +43,10 @@ pub(crate) fn judge(
     line: &[u8],
     id: &[u8],
 ) -> Result<Judged, RequestLineFault>
+    requires { store.old.cap ≡ max_held }
     ensures ok { IfOk result (λ judged. Judges number line.now id.now (map placed store.old.entries) judged.found judged.is_gone (map placed store.new.entries)) }
     ensures err { IfErr result (λ fault. fault ≢ RequestLineFault.NoMemory → (line_read line.now ≡ Err fault) × (store.new ≡ store.old)) }
+    ensures cap { store.new.cap ≡ store.old.cap }
 {
     let request = match read_line(alloc, line) {
         Ok(Some(request)) => request,

@@ -24,6 +24,7 @@ same_line held x k is = ap (λ (id : List ℕ). record {
   };
 }) (sym is)
 
-pub returns : goal.returns
-returns c = rw (c.len.ensures.len, c.len-before.ensures.len, c.in_ok-push.ensures.entries)
-    (put_in placed (λ (x y : Vec ℕ Global). bytes_eq x.items y.items) c.args.store.now c.args.id c.args.held (λ x same. same_line c.args.held x c.args.id (same_ids c.args.id.items x.items same)) c.len-before.ensures.valid.1 c.len-before.ensures.valid.2)
+pub returns-clause-held : goal.returns-clause-held
+returns-clause-held c = rw (c.len.ensures.len, c.len-before.ensures.len, c.in_ok-push.ensures.entries)
+    (put_in placed (λ (x y : Vec ℕ Global). bytes_eq x.items y.items) c.args.store.now c.args.id c.args.held (λ x same. same_line c.args.held x c.args.id (same_ids c.args.id.items x.items same)) (λ e same. same)
+    c.len-before.ensures.valid.1 c.requires)

@@ -5,6 +5,7 @@ pub mod Ending
 pub mod HandedOut
 pub mod Counted
 pub mod Lived
+pub mod Once
 pub mod GoingOn
 pub mod Written
 pub mod Zips

@@ -1,9 +1,8 @@
 -- The requests of a log run on the levels of a second cluster too.
-use Rattle.std.specs.Prelude.{◌≡◌, ◌<◌, ℕ, suc, ◌*◌, List, [], ◌∷◌, ◌++◌, replicate, length, Option, Some, None, IsSome, string_bytes}
+use Rattle.std.specs.Prelude.{◌≡◌, ◌<◌, Bool, ℕ, suc, ◌*◌, List, [], ◌∷◌, ◌++◌, replicate, length, Option, Some, None, IsSome, string_bytes}
 use Rattle.std.specs.Borrow.{Bor}
 use Rattle.std.specs.List.{AllByRecursion, flat_map}
 use Rattle.std.specs.Option.{option_to_list}
-use Rattle.std.specs.Io.KnownBytes.{Consumes, IsAtEnd}
 use Rattle.apf_objects.specs.Cluster.{ClusterSaid}
 use Rattle.apf_objects.specs.Levels.{LevelSaid}
 use Rattle.apf_objects.specs.Rules.{Text}
@@ -13,8 +12,8 @@ use Rattle.apf_changes.specs.Scenarios.{AssignedSaid, ScenarioSaid, rate_of}
 use Rattle.apf_audit.specs.AuditEvent.{BesideSaid, Event, event}
 use Rattle.apf_audit.specs.declared.choice.By.TheVariants.{Schemas}
 use Rattle.apf_audit.specs.declared.choice.Choice.{Choice}
-use Rattle.apf_audit_reader.specs.Reading.{AreAll}
-use Rattle.apf_audit_reader.specs.Views.{ReaderView}
+use Rattle.apf_joined_reader.specs.Joins.{Join, all_joined}
+use Rattle.apf_joined_reader.specs.Reading.{AreAll, Inputs, JoinedView}
 use Rattle.apf_cluster.specs.Lending.{period}
 use Rattle.apf_cluster.specs.Requests.{name_of, schema_at, start_of}
 use Rattle.apf_cluster.specs.Runs.{AreInTime, AreLived, AreOpened, Course, HasFed, HasRun, HaveLevels, Reaches}
@@ -89,7 +88,7 @@ pub record TakesBoth (w w2 : Course) (s : ScenarioSaid) (e : Event) (first first
   pub levels_too : HaveLevels w2.cluster (come_beside s e)
 
 -- what was handed out so far came to the lanes of both
-pub record HaveBothGone (choice : Choice) (w w2 : Course) (s : ScenarioSaid) (was left : Option (List ℕ)) (next : Option Event) (v : ReaderView) (first second : Going) : Type 0 where
+pub record HaveBothGone (choice : Choice) (w w2 : Course) (s : ScenarioSaid) (was left : Inputs) (next : Option Event) (v : JoinedView) (first second : Going) : Type 0 where
   pub told : List Event
   pub fed : HasFed choice was left told next v
   pub reaches : Reaches w told first.lanes.items first.clock.periods
@@ -111,21 +110,22 @@ terms_beside terms s = record terms { seats = s.seats }
 abbrev pub course_beside : ClusterTerms → ScenarioSaid → ℕ → Course
 course_beside terms s start = record { cluster = s.cluster; terms = terms_beside terms s; fixed = s.nominal; start = start }
 
--- The whole log was read once, and each of its requests was matched by the schemas of both clusters. Each is of one level of the first, and ran there; and as often as the second one's rates say, it ran on a level of the second
-pub record HasRunBoth (choice : Choice) (c : ClusterSaid) (terms : ClusterTerms) (s : ScenarioSaid) (size : ℕ) (was left : Option (List ℕ)) (tables : BothTables) : Type 0 where
-  pub bytes : List ℕ
-  pub given : Consumes was left bytes
-  pub told : List Event
-  pub all : AreAll choice size bytes told
-  pub ended : IsAtEnd left
+-- these requests ran on the first cluster, and as often as the second one's rates say on the second
+pub record HaveRunBoth (c : ClusterSaid) (terms : ClusterTerms) (s : ScenarioSaid) (told : List Event) (tables : BothTables) : Type 0 where
   pub levels : HaveLevels c told
   pub matched : AreMatchedTwice told
   pub levels_too : HaveLevels s.cluster (all_beside s told)
   pub ran : HasRun (record { cluster = c; terms = terms; fixed = []; start = start_of told }) told tables.first.items
   pub ran_too : HasRun (course_beside terms s (start_of told)) (all_beside s told) tables.second.items
 
+-- The whole log was read once, and each of its requests, with what its line says, was matched by the schemas of both clusters. Each is of one level of the first, and ran there; and as often as the second one's rates say, it ran on a level of the second
+pub record HasRunBoth (choice : Choice) (c : ClusterSaid) (terms : ClusterTerms) (s : ScenarioSaid) (size : ℕ) (has_lines : Bool) (was left : Inputs) (v : JoinedView) (tables : BothTables) : Type 0 where
+  pub joins : List Join
+  pub all : AreAll choice size has_lines was left joins v
+  pub ran : HaveRunBoth c terms s (all_joined joins) tables
+
 -- the same, by the schemas of the first cluster and of the second one, which is the one of the scenario
-pub record HasRunScenarios (first : Bor Cluster) (c : ClusterSaid) (terms : ClusterTerms) (scenario : Cluster) (s : ScenarioSaid) (size : ℕ) (was left : Option (List ℕ)) (tables : BothTables) : Type 0 where
+pub record HasRunScenarios (first : Bor Cluster) (c : ClusterSaid) (terms : ClusterTerms) (scenario : Cluster) (s : ScenarioSaid) (size : ℕ) (has_lines : Bool) (was left : Inputs) (v : JoinedView) (tables : BothTables) : Type 0 where
   pub second : Bor Cluster
   pub its : second.now ≡ scenario
-  pub ran : HasRunBoth (choice_of_both first second) c terms s size was left tables
+  pub ran : HasRunBoth (choice_of_both first second) c terms s size has_lines was left v tables

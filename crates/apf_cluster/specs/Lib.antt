@@ -1,5 +1,6 @@
 pub mod Shapes
 pub mod Requests
+pub mod Sums
 pub mod Lending
 pub mod Late
 pub mod Drawn

@@ -3,7 +3,7 @@ use Rattle.std.specs.Prelude.{◌≡◌, ℕ, suc, ◌+◌, ◌-◌, ◌*◌, �
 use Rattle.std.specs.Borrow.{Bor}
 use Rattle.std.specs.List.{AllByRecursion, AllZip}
 use Rattle.std.specs.Option.{option_to_list}
-use Rattle.std.specs.Io.KnownBytes.{Consumes, IsAtEnd}
+use Rattle.std.specs.Io.KnownBytes.{IsAtEnd}
 use Rattle.apf_charges.specs.declared.charges.ChargedBy.TheVariants.{Time}
 use Rattle.apf_times.specs.declared.window.Arrival.{Arrival}
 use Rattle.apf_traces.specs.declared.request.TraceRequest.{TraceRequest}
@@ -19,8 +19,9 @@ use Rattle.apf_lender.specs.declared.bounds.Bounds.{Bounds}
 use Rattle.apf_audit.specs.AuditEvent.{Event}
 use Rattle.apf_audit.specs.declared.choice.By.TheVariants.{Schema}
 use Rattle.apf_audit.specs.declared.choice.Choice.{Choice}
-use Rattle.apf_audit_reader.specs.Reading.{AreAll, HasRead}
-use Rattle.apf_audit_reader.specs.Views.{ReaderView}
+use Rattle.apf_audit_reader.specs.Reading as log
+use Rattle.apf_joined_reader.specs.Joins.{Join, all_joined, events_of}
+use Rattle.apf_joined_reader.specs.Reading.{AreAll, Gave, HasJoined, Inputs, JoinedView}
 use Rattle.apf_stream.specs.States.{State}
 use Rattle.apf_stream.specs.declared.deed.NewLimit.{NewLimit}
 use Rattle.apf_stream.specs.declared.ended.Ended.{Ended}
@@ -277,19 +278,22 @@ pub record Reaches (w : Course) (told : List Event) (lanes : List LevelLane) (pe
   pub divided : AreAdjusted w adjustments
   pub come : HaveCome w told adjustments lanes
 
--- what the input gave so far: these were handed out, and this comes next; nobody does once all were
-pub record HasFed (choice : Choice) (was left : Option (List ℕ)) (told : List Event) (next : Option Event) (v : ReaderView) : Type 0 where
-  pub bytes : List ℕ
-  pub given : Consumes was left bytes
-  pub read : HasRead choice bytes (told ++ option_to_list next) left v
-  pub all : next ≡ None → AreAll choice v.window.size bytes told × IsAtEnd left
+-- what the inputs gave so far: these were handed out, each with what its line says, and this comes next; nobody does once all were
+pub record HasFed (choice : Choice) (was left : Inputs) (told : List Event) (next : Option Event) (v : JoinedView) : Type 0 where
+  pub log_bytes : List ℕ
+  pub line_bytes : List ℕ
+  pub given : Gave was left log_bytes line_bytes
+  pub joins : List Join
+  pub are : all_joined joins ≡ told ++ option_to_list next
+  pub read : HasJoined choice log_bytes line_bytes joins left v
+  pub all : next ≡ None → log.AreAll choice v.reader.window.size log_bytes (events_of joins) × IsAtEnd left.log
 
 -- each of these is of a level
 abbrev pub HaveLevels : ClusterSaid → List Event → Type 0
 HaveLevels c told = AllByRecursion (λ e. IsSome (level_of c e)) told
 
 -- what was handed out so far came to the lanes
-pub record HaveGone (choice : Choice) (w : Course) (was left : Option (List ℕ)) (next : Option Event) (v : ReaderView) (lanes : List LevelLane) (periods : ℕ) : Type 0 where
+pub record HaveGone (choice : Choice) (w : Course) (was left : Inputs) (next : Option Event) (v : JoinedView) (lanes : List LevelLane) (periods : ℕ) : Type 0 where
   pub told : List Event
   pub fed : HasFed choice was left told next v
   pub reaches : Reaches w told lanes periods
@@ -360,16 +364,13 @@ HasRun w told tables = (adjustments : List Adjustment) × AreAdjusted w adjustme
 abbrev pub choice_by : Bor Cluster → Choice
 choice_by cluster = record { by = Schema cluster; user = None; since = None; until = None }
 
--- The whole log was read. Each of its requests is of one level, and ran on it, and this is what they came to
-pub record HasRunLog (choice : Choice) (c : ClusterSaid) (terms : ClusterTerms) (size : ℕ) (was left : Option (List ℕ)) (tables : List LevelTable) : Type 0 where
-  pub bytes : List ℕ
-  pub given : Consumes was left bytes
-  pub told : List Event
-  pub all : AreAll choice size bytes told
-  pub ended : IsAtEnd left
-  pub levels : HaveLevels c told
-  pub ran : HasRun (record { cluster = c; terms = terms; fixed = []; start = start_of told }) told tables
+-- The whole log was read. Each of its requests, with what its line says, is of one level, and ran on it, and this is what they came to
+pub record HasRunLog (choice : Choice) (c : ClusterSaid) (terms : ClusterTerms) (size : ℕ) (has_lines : Bool) (was left : Inputs) (v : JoinedView) (tables : List LevelTable) : Type 0 where
+  pub joins : List Join
+  pub all : AreAll choice size has_lines was left joins v
+  pub levels : HaveLevels c (all_joined joins)
+  pub ran : HasRun (record { cluster = c; terms = terms; fixed = []; start = start_of (all_joined joins) }) (all_joined joins) tables
 
 -- nothing was read
-abbrev pub IsFresh : ReaderView → Type 0
-IsFresh v = (choice : Choice) (left : Option (List ℕ)) → HasRead choice [] [] left v
+abbrev pub IsFresh : JoinedView → Type 0
+IsFresh v = (choice : Choice) (left : Inputs) → HasJoined choice [] [] [] left v

@@ -1,8 +1,9 @@
 //! A whole log on two clusters.
 
-ghost use Rattle.std.specs.Prelude.{◌≡◌, ◌≤◌, ◌++◌, ◌∷◌, [], ℕ, List, Option, Some, None, length, map, option_map, vec_len, IfOk, IsSome, OnOk};
+ghost use Rattle.std.specs.Prelude.{◌≡◌, ◌≤◌, ◌++◌, ◌∷◌, [], ℕ, List, Option, Some, None, length, map, option_map, vec_len, IfOk, IsSome, OnOk, is_some};
 ghost use Rattle.apf_audit.specs.AuditEvent.{Event, event};
 ghost use Rattle.apf_changes.specs.Scenarios.{assigned_view, scenario_view};
+ghost use Rattle.apf_joined_reader.specs.Reading.{Inputs, IsAlike, inputs};
 ghost use Rattle.apf_matching.specs.Limits.{max_seats};
 ghost use Rattle.apf_objects.specs.Cluster.{cluster_view};
 ghost use Rattle.apf_objects.specs.Levels.{level_view};
@@ -16,9 +17,9 @@ use crate::feeding::{Clock, Way};
 use crate::lanes::open_lanes;
 use crate::running::{ClusterTerms, close_after, start_of};
 use apf_audit::{AuditFault, By, Choice, Taken};
-use apf_audit_reader::{AuditReader, ReadFault};
 use apf_changes::{Assigned, Scenario};
 use apf_cluster_tables::LevelTable;
+use apf_joined_reader::{JoinFault, JoinedReader};
 use apf_matching::sum_of_shares;
 use apf_objects::{Cluster, Level};
 use std::alloc::Global;
@@ -58,8 +59,8 @@ impl From<ClusterFault> for BothFault {
     }
 }
 
-impl From<ReadFault> for BothFault {
-    fn from(fault: ReadFault) -> Self {
+impl From<JoinFault> for BothFault {
+    fn from(fault: JoinFault) -> Self {
         Self::from(ClusterFault::from(fault))
     }
 }
@@ -164,14 +165,15 @@ fn take_both(
 }
 
 // The request of an event arrives on both clusters, and the next one is read.
-fn turn_both<R: Read>(
+fn turn_both<R: Read, S: Read>(
     alloc: Global,
     ways: Ways<'_>,
     first: &mut Going,
     second: &mut Going,
     taken: Taken,
-    reader: &mut AuditReader,
+    reader: &mut JoinedReader,
     input: &mut R,
+    lines: &mut S,
 ) -> Result<Option<Taken>, BothFault>
     requires few { length ways.first.cluster.now.levels.items ≤ 1000 }
     requires few_too { length ways.second.cluster.now.levels.items ≤ 1000 }
@@ -180,23 +182,24 @@ fn turn_both<R: Read>(
     ensures takes { OnOk result (spec.TakesBoth (course_of ways.entry.first) (course_of ways.entry.second) (scenario_view ways.entry.scenario.now) (event taken) first.old first.new second.old second.new) }
     ensures ready { OnOk result (spec.IsReady (length ways.entry.first.cluster.now.levels.items) first.new) }
     ensures ready_too { OnOk result (spec.IsReady (length ways.entry.second.cluster.now.levels.items) second.new) }
-    ensures fed { IfOk result (λ next. (was : Option (List ℕ)) (told : List Event) → HasFed ways.entry.first.choice.now was (R.remaining input.old) told (Some (event taken)) reader.old
-        → HasFed ways.entry.first.choice.now was (R.remaining input.new) (told ++ event taken ∷ []) (option_map event next) reader.new) }
-    ensures size { reader.new.window.size ≡ reader.old.window.size }
+    ensures fed { IfOk result (λ next. (was : Inputs) (told : List Event) → HasFed ways.entry.first.choice.now was (inputs (R.remaining input.old) (S.remaining lines.old)) told (Some (event taken)) reader.old
+        → HasFed ways.entry.first.choice.now was (inputs (R.remaining input.new) (S.remaining lines.new)) (told ++ event taken ∷ []) (option_map event next) reader.new) }
+    ensures alike { IsAlike reader.old reader.new }
 {
     take_both(alloc, ways, first, second, taken)?;
-    Ok(reader.next(ways.first.choice, input)?)
+    Ok(reader.next(ways.first.choice, input, lines)?)
 }
 
 // The first request of the log arrives on both clusters, and each behind it.
-fn feed_both<R: Read>(
+fn feed_both<R: Read, S: Read>(
     alloc: Global,
     ways: Ways<'_>,
     first: &mut Going,
     second: &mut Going,
     next: Option<Taken>,
-    reader: &mut AuditReader,
+    reader: &mut JoinedReader,
     input: &mut R,
+    lines: &mut S,
 ) -> Result<(), BothFault>
     requires few { length ways.first.cluster.now.levels.items ≤ 1000 }
     requires few_too { length ways.second.cluster.now.levels.items ≤ 1000 }
@@ -204,15 +207,15 @@ fn feed_both<R: Read>(
     requires ready_too { spec.IsReady (length ways.second.cluster.now.levels.items) second.old }
     ensures ready { OnOk result (spec.IsReady (length ways.entry.first.cluster.now.levels.items) first.new) }
     ensures ready_too { OnOk result (spec.IsReady (length ways.entry.second.cluster.now.levels.items) second.new) }
-    ensures gone { OnOk result ((was : Option (List ℕ)) → spec.HaveBothGone ways.entry.first.choice.now (course_of ways.entry.first) (course_of ways.entry.second) (scenario_view ways.entry.scenario.now) was (R.remaining input.old) (option_map event next) reader.old first.old second.old
-        → spec.HaveBothGone ways.entry.first.choice.now (course_of ways.entry.first) (course_of ways.entry.second) (scenario_view ways.entry.scenario.now) was (R.remaining input.new) None reader.new first.new second.new) }
-    ensures size { reader.new.window.size ≡ reader.old.window.size }
+    ensures gone { OnOk result ((was : Inputs) → spec.HaveBothGone ways.entry.first.choice.now (course_of ways.entry.first) (course_of ways.entry.second) (scenario_view ways.entry.scenario.now) was (inputs (R.remaining input.old) (S.remaining lines.old)) (option_map event next) reader.old first.old second.old
+        → spec.HaveBothGone ways.entry.first.choice.now (course_of ways.entry.first) (course_of ways.entry.second) (scenario_view ways.entry.scenario.now) was (inputs (R.remaining input.new) (S.remaining lines.new)) None reader.new first.new second.new) }
+    ensures alike { IsAlike reader.old reader.new }
 {
     let mut next = next;
     'requests: for _ in 0..u64::MAX {
         match next {
             Some(taken) => {
-                next = turn_both(alloc, ways, first, second, taken, reader, input)?;
+                next = turn_both(alloc, ways, first, second, taken, reader, input, lines)?;
             }
             None => return Ok(()),
         }
@@ -276,13 +279,14 @@ fn close_both(
 /// # Errors
 ///
 /// Those of `run_log`, each with the cluster that it is of.
-pub fn run_both<R: Read>(
+pub fn run_both<R: Read, S: Read>(
     alloc: Global,
     first: &Cluster,
     second: &Scenario,
     terms: ClusterTerms,
-    reader: &mut AuditReader,
+    reader: &mut JoinedReader,
     input: &mut R,
+    lines: &mut S,
 ) -> Result<BothTables, BothFault>
     requires levels { vec_len first.now.levels ≤ 1000 }
     requires seats { terms.seats ≤ max_seats }
@@ -290,7 +294,7 @@ pub fn run_both<R: Read>(
     ensures each { IfOk result (λ tables. length tables.first.items ≡ length first.now.levels.items) }
     ensures each_too { IfOk result (λ tables. length tables.second.items ≡ length second.now.cluster.levels.items) }
     ensures ran { IfOk result (λ tables. IsFresh reader.old
-        → spec.HasRunScenarios first.entry (cluster_view first.now) terms second.now.cluster (scenario_view second.now) reader.old.window.size (R.remaining input.old) (R.remaining input.new) tables) }
+        → spec.HasRunScenarios first.entry (cluster_view first.now) terms second.now.cluster (scenario_view second.now) (reader.old.reader.window.size) (is_some reader.old.halves) (inputs (R.remaining input.old) (S.remaining lines.old)) (inputs (R.remaining input.new) (S.remaining lines.new)) reader.new tables) }
 {
     let mut going = open_going(alloc, first.levels.as_slice(), terms, &[])?;
     let mut beside = open_second(alloc, second, terms)?;
@@ -300,7 +304,7 @@ pub fn run_both<R: Read>(
         since: None,
         until: None,
     };
-    let next = reader.next(&choice, input)?;
+    let next = reader.next(&choice, input, lines)?;
     let start = start_of(&next);
     let ways = Ways {
         first: Way {
@@ -319,6 +323,15 @@ pub fn run_both<R: Read>(
         },
         scenario: second,
     };
-    feed_both(alloc, ways, &mut going, &mut beside, next, reader, input)?;
+    feed_both(
+        alloc,
+        ways,
+        &mut going,
+        &mut beside,
+        next,
+        reader,
+        input,
+        lines,
+    )?;
     close_both(alloc, ways, going, beside)
 }

@@ -2,8 +2,10 @@
 
 use apf_audit::AuditFault;
 use apf_audit_reader::ReadFault;
+use apf_joined_reader::JoinFault;
 use apf_lender::Untimely;
 use apf_local::OpenFault;
+use apf_request_halves::HalvesFault;
 use apf_simulator::SimulatorFault;
 use std::alloc::AllocError;
 use thiserror::Error;
@@ -14,6 +16,9 @@ pub enum ClusterFault {
     /// The log is not read: its first fault, or the input failed.
     #[error("{0}")]
     Read(ReadFault),
+    /// The server's own log is not read: a fault of a line, or the input failed.
+    #[error("{0}")]
+    Lines(HalvesFault),
     /// The level at this place is not opened.
     #[error("level {0}: {1}")]
     Open(usize, OpenFault),
@@ -50,6 +55,16 @@ impl From<ReadFault> for ClusterFault {
         match fault {
             ReadFault::Log(AuditFault::NoMemory) => Self::NoMemory,
             ReadFault::Log(_) | ReadFault::CannotRead(_) => Self::Read(fault),
+        }
+    }
+}
+
+impl From<JoinFault> for ClusterFault {
+    fn from(fault: JoinFault) -> Self {
+        match fault {
+            JoinFault::Read(fault) => Self::from(fault),
+            JoinFault::Lines(HalvesFault::NoMemory) | JoinFault::NoMemory => Self::NoMemory,
+            JoinFault::Lines(fault) => Self::Lines(fault),
         }
     }
 }

@@ -2,6 +2,7 @@
 
 ghost use Rattle.std.specs.Prelude.{◌≡◌, ◌<◌, ◌≤◌, ◌*◌, ◌-◌, ◌++◌, ◌∷◌, [], ℕ, suc, List, Option, IsSome, None, Some, length, option_map, IfOk, OnOk};
 ghost use Rattle.apf_audit.specs.AuditEvent.{Event, event};
+ghost use Rattle.apf_joined_reader.specs.Reading.{Inputs, IsAlike, inputs};
 ghost use Rattle.apf_objects.specs.Cluster.{cluster_view};
 ghost use Rattle.apf_times.specs.Limits.{max_arrival};
 ghost use Rattle.apf_cluster.specs.Lending.{period};
@@ -14,8 +15,8 @@ use crate::lanes::{LevelLane, arrive};
 use crate::lending::pass;
 use crate::running::ClusterTerms;
 use apf_audit::{Choice, Taken, arrives_at};
-use apf_audit_reader::AuditReader;
 use apf_changes::Assigned;
+use apf_joined_reader::JoinedReader;
 use apf_objects::Cluster;
 use apf_times::MOST_RUNS_FOR;
 use apf_words::MAX_WIDTH;
@@ -107,14 +108,15 @@ pub(crate) fn take(
 }
 
 // The request of an event arrives on the lane of its level, and the next one is read.
-fn turn<R: Read>(
+fn turn<R: Read, S: Read>(
     alloc: Global,
     way: Way<'_>,
     lanes: &mut Vec<LevelLane>,
     clock: &mut Clock,
     taken: Taken,
-    reader: &mut AuditReader,
+    reader: &mut JoinedReader,
     input: &mut R,
+    lines: &mut S,
 ) -> Result<Option<Taken>, ClusterFault>
     requires count { length lanes.old.items ≡ length way.cluster.now.levels.items }
     requires few { length lanes.old.items ≤ 1000 }
@@ -128,12 +130,12 @@ fn turn<R: Read>(
     ensures next { OnOk result (clock.new.last < period * suc clock.new.periods) }
     ensures lived { OnOk result (AreLived lanes.new.items) }
     ensures count { OnOk result (length lanes.new.items ≡ length lanes.old.items) }
-    ensures fed { IfOk result (λ next. (was : Option (List ℕ)) (told : List Event) → HasFed way.entry.choice.now was (R.remaining input.old) told (Some (event taken)) reader.old
-        → HasFed way.entry.choice.now was (R.remaining input.new) (told ++ event taken ∷ []) (option_map event next) reader.new) }
-    ensures size { reader.new.window.size ≡ reader.old.window.size }
+    ensures fed { IfOk result (λ next. (was : Inputs) (told : List Event) → HasFed way.entry.choice.now was (inputs (R.remaining input.old) (S.remaining lines.old)) told (Some (event taken)) reader.old
+        → HasFed way.entry.choice.now was (inputs (R.remaining input.new) (S.remaining lines.new)) (told ++ event taken ∷ []) (option_map event next) reader.new) }
+    ensures alike { IsAlike reader.old reader.new }
 {
     *clock = take(alloc, way, lanes, *clock, &taken)?;
-    Ok(reader.next(way.choice, input)?)
+    Ok(reader.next(way.choice, input, lines)?)
 }
 
 /// The first request of the log arrives on the lane of its level, and each behind it. Answers how many periods have ended then.
@@ -141,13 +143,14 @@ fn turn<R: Read>(
 /// # Errors
 ///
 /// The reader's, `BadArrival` among them, and those of the lanes.
-pub(crate) fn feed<R: Read>(
+pub(crate) fn feed<R: Read, S: Read>(
     alloc: Global,
     way: Way<'_>,
     lanes: &mut Vec<LevelLane>,
     first: Option<Taken>,
-    reader: &mut AuditReader,
+    reader: &mut JoinedReader,
     input: &mut R,
+    lines: &mut S,
 ) -> Result<u64, ClusterFault>
     requires count { length lanes.old.items ≡ length way.cluster.now.levels.items }
     requires few { length lanes.old.items ≤ 1000 }
@@ -156,9 +159,9 @@ pub(crate) fn feed<R: Read>(
     ensures count { OnOk result (length lanes.new.items ≡ length lanes.old.items) }
     ensures lived { OnOk result (AreLived lanes.new.items) }
     ensures next { IfOk result (λ periods. AreInTime (period * suc periods) lanes.new.items) }
-    ensures gone { IfOk result (λ periods. (was : Option (List ℕ)) → HaveGone way.entry.choice.now (course_of way.entry) was (R.remaining input.old) (option_map event first) reader.old lanes.old.items 0
-        → HaveGone way.entry.choice.now (course_of way.entry) was (R.remaining input.new) None reader.new lanes.new.items periods) }
-    ensures size { reader.new.window.size ≡ reader.old.window.size }
+    ensures gone { IfOk result (λ periods. (was : Inputs) → HaveGone way.entry.choice.now (course_of way.entry) was (inputs (R.remaining input.old) (S.remaining lines.old)) (option_map event first) reader.old lanes.old.items 0
+        → HaveGone way.entry.choice.now (course_of way.entry) was (inputs (R.remaining input.new) (S.remaining lines.new)) None reader.new lanes.new.items periods) }
+    ensures alike { IsAlike reader.old reader.new }
 {
     let mut next = first;
     let mut clock = Clock {
@@ -168,7 +171,7 @@ pub(crate) fn feed<R: Read>(
     'requests: for _ in 0..u64::MAX {
         match next {
             Some(taken) => {
-                next = turn(alloc, way, lanes, &mut clock, taken, reader, input)?;
+                next = turn(alloc, way, lanes, &mut clock, taken, reader, input, lines)?;
             }
             None => return Ok(clock.periods),
         }

@@ -8,6 +8,7 @@
 //! - `demand`: for how many seats the requests of a level ask. `lending`: the seats are divided anew at the end of each period.
 //! - `limits`: the limits of a level. `beside`: a request arrives on a second cluster. `both`: a whole log on two clusters.
 //! - `closing`: what the requests of each level came to. `running`: a whole log. `tracing`: the requests of a level, as a trace.
+//! - `laws`: what is true of every run of a log.
 #![tactic(auto)]
 
 mod asking;
@@ -20,6 +21,7 @@ mod fault;
 mod feeding;
 mod lanes;
 mod late;
+mod laws;
 mod lending;
 mod limits;
 mod running;
@@ -28,5 +30,6 @@ mod tracing;
 
 pub use both::{BothFault, BothTables, run_both};
 pub use fault::ClusterFault;
+pub use laws::every_request_is_counted_once;
 pub use running::{ClusterTerms, run_log};
 pub use tracing::{TraceFault, write_trace};

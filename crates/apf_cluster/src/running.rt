@@ -1,9 +1,10 @@
 //! A whole log.
 
-ghost use Rattle.std.specs.Prelude.{◌≡◌, ◌≤◌, ◌*◌, List, suc, length, option_map, vec_len, IfOk};
+ghost use Rattle.std.specs.Prelude.{◌≡◌, ◌≤◌, ◌*◌, List, suc, length, option_map, vec_len, IfOk, is_some};
 ghost use Rattle.std.specs.Option.{option_to_list};
 ghost use Rattle.apf_audit.specs.AuditEvent.{Event, event};
 ghost use Rattle.apf_matching.specs.Limits.{max_seats};
+ghost use Rattle.apf_joined_reader.specs.Reading.{inputs};
 ghost use Rattle.apf_objects.specs.Cluster.{cluster_view};
 ghost use Rattle.apf_times.specs.Limits.{max_patience};
 ghost use Rattle.apf_cluster.specs.Requests.{start_of as first_of};
@@ -16,8 +17,8 @@ use crate::feeding::{Way, feed};
 use crate::lanes::{LevelLane, open_lanes};
 use crate::lending::{end_after, pass_all};
 use apf_audit::{By, Choice, Taken};
-use apf_audit_reader::AuditReader;
 use apf_cluster_tables::LevelTable;
+use apf_joined_reader::JoinedReader;
 use apf_matching::sum_of_shares;
 use apf_objects::Cluster;
 use std::alloc::Global;
@@ -83,19 +84,20 @@ pub(crate) fn close_after(
 /// # Errors
 ///
 /// The log's first fault, or that of the input; `Open` with the first level that is not opened; `Level` with what runs on one.
-pub fn run_log<R: Read>(
+pub fn run_log<R: Read, S: Read>(
     alloc: Global,
     cluster: &Cluster,
     terms: ClusterTerms,
-    reader: &mut AuditReader,
+    reader: &mut JoinedReader,
     input: &mut R,
+    lines: &mut S,
 ) -> Result<Vec<LevelTable>, ClusterFault>
     requires levels { vec_len cluster.now.levels ≤ 1000 }
     requires seats { terms.seats ≤ max_seats }
     requires patience { terms.patience ≤ max_patience }
     ensures each { IfOk result (λ tables. length tables.items ≡ length cluster.now.levels.items) }
     ensures ran { IfOk result (λ tables. IsFresh reader.old
-        → HasRunLog (choice_by cluster.entry) (cluster_view cluster.now) terms reader.old.window.size (R.remaining input.old) (R.remaining input.new) tables.items) }
+        → HasRunLog (choice_by cluster.entry) (cluster_view cluster.now) terms (reader.old.reader.window.size) (is_some reader.old.halves) (inputs (R.remaining input.old) (S.remaining lines.old)) (inputs (R.remaining input.new) (S.remaining lines.new)) reader.new tables.items) }
 {
     let levels = cluster.levels.as_slice();
     let mut lanes = open_lanes(alloc, levels, terms, &[], sum_of_shares(levels))?;
@@ -105,7 +107,7 @@ pub fn run_log<R: Read>(
         since: None,
         until: None,
     };
-    let first = reader.next(&choice, input)?;
+    let first = reader.next(&choice, input, lines)?;
     let way = Way {
         cluster,
         choice: &choice,
@@ -113,6 +115,6 @@ pub fn run_log<R: Read>(
         fixed: &[],
         start: start_of(&first),
     };
-    let periods = feed(alloc, way, &mut lanes, first, reader, input)?;
+    let periods = feed(alloc, way, &mut lanes, first, reader, input, lines)?;
     close_after(alloc, way, lanes, periods)
 }

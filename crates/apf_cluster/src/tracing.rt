@@ -1,8 +1,9 @@
 //! The requests of a level, as a trace.
 
-ghost use Rattle.std.specs.Prelude.{◌≡◌, ℕ, ◌++◌, ◌∷◌, [], List, Option, Some, option_map, IfOk, OnOk};
+ghost use Rattle.std.specs.Prelude.{◌≡◌, ℕ, ◌++◌, ◌∷◌, [], List, Option, Some, option_map, IfOk, OnOk, is_some};
 ghost use Rattle.std.specs.Io.KnownBytes.{Appends};
 ghost use Rattle.apf_audit.specs.AuditEvent.{Event, event};
+ghost use Rattle.apf_joined_reader.specs.Reading.{Inputs, IsAlike, inputs};
 ghost use Rattle.apf_objects.specs.Cluster.{cluster_view};
 ghost use Rattle.apf_cluster.specs.Runs.{HasFed, IsFresh, choice_by};
 ghost use Rattle.apf_cluster.specs.Traces as spec;
@@ -11,7 +12,7 @@ use crate::asking::{level_of, schema_at};
 use crate::fault::ClusterFault;
 use crate::running::start_of;
 use apf_audit::{AuditFault, By, Choice, Taken, arrives_at, write_request};
-use apf_audit_reader::{AuditReader, ReadFault};
+use apf_joined_reader::{JoinFault, JoinedReader};
 use apf_objects::Cluster;
 use std::io::{Read, Write};
 use thiserror::Error;
@@ -33,8 +34,8 @@ impl From<AuditFault> for TraceFault {
     }
 }
 
-impl From<ReadFault> for TraceFault {
-    fn from(fault: ReadFault) -> Self {
+impl From<JoinFault> for TraceFault {
+    fn from(fault: JoinFault) -> Self {
         Self::Cluster(ClusterFault::from(fault))
     }
 }
@@ -68,21 +69,22 @@ fn write_taken<W: Write>(way: Traced<'_>, taken: &Taken, out: &mut W) -> Result<
 }
 
 // Writes the line of the request of an event, if it is of the level, and reads the next one.
-fn write_turn<R: Read, W: Write>(
+fn write_turn<R: Read, S: Read, W: Write>(
     way: Traced<'_>,
     choice: &Choice<'_>,
     taken: Taken,
-    reader: &mut AuditReader,
+    reader: &mut JoinedReader,
     input: &mut R,
+    lines: &mut S,
     out: &mut W,
 ) -> Result<Option<Taken>, TraceFault>
-    ensures fed { IfOk result (λ next. (was : Option (List ℕ)) (told : List Event) → HasFed choice.now was (R.remaining input.old) told (Some (event taken)) reader.old
-        → HasFed choice.now was (R.remaining input.new) (told ++ event taken ∷ []) (option_map event next) reader.new) }
+    ensures fed { IfOk result (λ next. (was : Inputs) (told : List Event) → HasFed choice.now was (inputs (R.remaining input.old) (S.remaining lines.old)) told (Some (event taken)) reader.old
+        → HasFed choice.now was (inputs (R.remaining input.new) (S.remaining lines.new)) (told ++ event taken ∷ []) (option_map event next) reader.new) }
     ensures written { OnOk result (Appends (W.contents out.old) (W.contents out.new) (spec.lines_of (cluster_view way.entry.cluster.now) way.entry.place way.entry.start (event taken))) }
-    ensures size { reader.new.window.size ≡ reader.old.window.size }
+    ensures alike { IsAlike reader.old reader.new }
 {
     write_taken(way, &taken, out)?;
-    Ok(reader.next(choice, input)?)
+    Ok(reader.next(choice, input, lines)?)
 }
 
 /// Writes the requests of an audit log that are of the level at this place of a cluster, as a trace: a line for each, in the order
@@ -91,15 +93,16 @@ fn write_turn<R: Read, W: Write>(
 /// # Errors
 ///
 /// The log's first fault, or that of the input, behind the lines of the requests before it; `CannotWrite`.
-pub fn write_trace<R: Read, W: Write>(
+pub fn write_trace<R: Read, S: Read, W: Write>(
     cluster: &Cluster,
     place: usize,
-    reader: &mut AuditReader,
+    reader: &mut JoinedReader,
     input: &mut R,
+    lines: &mut S,
     out: &mut W,
 ) -> Result<(), TraceFault>
     ensures { OnOk result (IsFresh reader.old
-        → spec.HasWrittenTrace (choice_by cluster.entry) (cluster_view cluster.now) place reader.old.window.size (R.remaining input.old) (R.remaining input.new) (W.contents out.old) (W.contents out.new)) }
+        → spec.HasWrittenTrace (choice_by cluster.entry) (cluster_view cluster.now) place (reader.old.reader.window.size) (is_some reader.old.halves) (inputs (R.remaining input.old) (S.remaining lines.old)) (inputs (R.remaining input.new) (S.remaining lines.new)) reader.new (W.contents out.old) (W.contents out.new)) }
 {
     let choice = Choice {
         by: By::Schema(cluster),
@@ -107,7 +110,7 @@ pub fn write_trace<R: Read, W: Write>(
         since: None,
         until: None,
     };
-    let mut next = reader.next(&choice, input)?;
+    let mut next = reader.next(&choice, input, lines)?;
     let way = Traced {
         cluster,
         place,
@@ -116,7 +119,7 @@ pub fn write_trace<R: Read, W: Write>(
     'requests: for _ in 0..u64::MAX {
         match next {
             Some(taken) => {
-                next = write_turn(way, &choice, taken, reader, input, out)?;
+                next = write_turn(way, &choice, taken, reader, input, lines, out)?;
             }
             None => return Ok(()),
         }

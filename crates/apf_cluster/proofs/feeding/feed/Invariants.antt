@@ -1,7 +1,8 @@
 -- What was handed out so far came to the lanes.
-use Rattle.std.proofs.Common.{◌≡◌, ◌<◌, ◌*◌, ℕ, suc, List, length, Option}
+use Rattle.std.proofs.Common.{◌≡◌, ◌<◌, ◌*◌, suc, length}
 use Rattle.std.specs.Prelude.{option_map}
 use Rattle.apf_audit.specs.AuditEvent.{event}
+use Rattle.apf_joined_reader.specs.Reading.{Inputs, IsAlike, inputs}
 use Rattle.apf_cluster.specs.Lending.{period}
 use Rattle.apf_cluster.specs.Runs.{AreInTime, AreLived, HaveGone, course_of}
 use Rattle.apf_cluster.proofs.feeding.feed.Given as goal
@@ -12,7 +13,7 @@ invariant-requests g l = record {
   in_time : AreInTime l.clock.last l.lanes.items;
   next : l.clock.last < period * suc l.clock.periods;
   lived : AreLived l.lanes.items;
-  gone : (was : Option (List ℕ)) → HaveGone l.way.choice.now (course_of l.way) was (g.R.Read.remaining l.initial.input) (option_map event l.initial.next) l.initial.reader l.initial.lanes.items 0
-      → HaveGone l.way.choice.now (course_of l.way) was (g.R.Read.remaining l.input) (option_map event l.next) l.reader l.lanes.items l.clock.periods;
-  size : l.reader.window.size ≡ l.initial.reader.window.size;
+  gone : (was : Inputs) → HaveGone l.way.choice.now (course_of l.way) was (inputs (g.R.Read.remaining l.initial.input) (g.S.Read.remaining l.initial.lines)) (option_map event l.initial.next) l.initial.reader l.initial.lanes.items 0
+      → HaveGone l.way.choice.now (course_of l.way) was (inputs (g.R.Read.remaining l.input) (g.S.Read.remaining l.lines)) (option_map event l.next) l.reader l.lanes.items l.clock.periods;
+  alike : IsAlike l.initial.reader l.reader;
 }

@@ -4,7 +4,7 @@
 
 ghost use Rattle.std.specs.Prelude.{◌≤◌, IfOk, vec_len};
 
-use apf_cli::{FileFault, Files, WriteFault, act, cause_of};
+use apf_cli::{FileFault, Files, SecondFile, WriteFault, act, cause_of};
 use std::alloc::{AllocError, Global};
 use std::fs::File;
 use std::io;
@@ -64,6 +64,35 @@ impl Files for Disk<'_> {
     }
 }
 
+// A file of the machine that is read beside another one.
+#[derive(Drop)]
+struct Beside<'a> {
+    rt: &'a HostRuntime,
+    // the file, or none of standard input
+    opened: Option<File>,
+}
+
+impl Read for Beside<'_> {
+    fn read(&mut self, buf: &mut [u8]) -> io::Result<usize> {
+        match &mut self.opened {
+            Some(file) => file.read(buf),
+            None => self.rt.stdin().read(buf),
+        }
+    }
+}
+
+impl SecondFile for Beside<'_> {
+    fn open_second(&mut self, name: &str) -> Result<(), FileFault> {
+        if name == "-" {
+            self.opened = None;
+            return Ok(());
+        }
+        let file = File::open(self.rt, name).map_err(fault_of)?;
+        self.opened = Some(file);
+        Ok(())
+    }
+}
+
 fn fault_of(error: io::Error) -> FileFault {
     match error.kind() {
         io::ErrorKind::OutOfMemory => FileFault::NoMemory,
@@ -120,11 +149,13 @@ fn run<R: Wait + Threads + Sync + Clock>(rt: &HostRuntime, waiter: &R) -> Result
     let owned: Vec<String> = std::env::args(rt)?.collect(alloc)?;
     let words: Vec<&str> = owned.iter().map(|word| word.as_str()).collect(alloc)?;
     let mut files = Disk { rt, opened: None };
+    let mut beside = Beside { rt, opened: None };
     Ok(act(
         waiter,
         alloc,
         words.as_slice(),
         &mut files,
+        &mut beside,
         &mut out,
         &mut rt.stderr(),
     ))

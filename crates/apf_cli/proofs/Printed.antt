@@ -30,4 +30,4 @@ prints_kept holds (Flows config trace flow) old mid new h k = tt
 prints_kept holds (AuditLog log schema chosen) old mid new h k = tt
 prints_kept holds (Objects cluster seats) old mid new h k = tt
 prints_kept holds (Match cluster attributes) old mid new h k = tt
-prints_kept holds (Cluster objects log patience seats flows json no_lending level trace changes against warm_up picture) old mid new h k = tt
+prints_kept holds (Cluster objects log patience seats flows json no_lending level trace changes against warm_up picture http_log) old mid new h k = tt

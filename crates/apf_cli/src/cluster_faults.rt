@@ -1,13 +1,20 @@
 //! Why a whole cluster, or two, are not simulated: the lines on standard error.
 
 use crate::audits::log_fault;
+use crate::cluster_logs::Names;
 use crate::faults::Fault;
+use crate::files::{Input, cause_of};
 use crate::streaming::lane_fault;
+use crate::telling::named;
 use apf_changes::Scenario;
 use apf_cluster::{BothFault, ClusterFault};
+use apf_cluster_text::write_server_fault;
 use apf_flows::write_text;
+use apf_joined_reader::JoinedReader;
 use apf_local::OpenFault;
 use apf_objects::Cluster;
+use apf_request_halves::HalvesFault;
+use apf_request_lines::RequestLineFault;
 use std::alloc::Global;
 use std::io;
 use std::io::Write;
@@ -44,16 +51,50 @@ fn in_words(alloc: Global, fault: &ClusterFault) -> Fault {
     }
 }
 
-/// The fault of a log of this name that was not simulated, whose line that was read last has these bytes.
+// The fault of the line of this number of the server's own log.
+fn server_line_fault(alloc: Global, number: u64, line: &[u8], fault: RequestLineFault) -> Fault {
+    if fault == RequestLineFault::NoMemory {
+        return Fault::NoMemory;
+    }
+    let mut text = Vec::new(alloc);
+    match write_server_fault(&mut text, number, line, fault) {
+        Ok(()) => Fault::Told(text),
+        Err(_) => Fault::NoMemory,
+    }
+}
+
+// The fault of the server's own log of this name.
+fn server_log_fault(alloc: Global, name: &str, reader: &JoinedReader, fault: HalvesFault) -> Fault {
+    match fault {
+        HalvesFault::Line(number, fault) => {
+            let line = match reader.lines() {
+                Some(lines) => lines.line(),
+                None => &[],
+            };
+            server_line_fault(alloc, number, line, fault)
+        }
+        HalvesFault::CannotRead(error) => named(
+            alloc,
+            name,
+            Fault::CannotRead(Input::ServerLog, cause_of(&error)),
+        ),
+        HalvesFault::NoMemory => Fault::NoMemory,
+    }
+}
+
+/// The fault of logs of these names that were not simulated, and that this reader has read.
 pub(crate) fn fault_of(
     alloc: Global,
     cluster: &Cluster,
-    log: &str,
-    line: &[u8],
+    names: Names<'_>,
+    reader: &JoinedReader,
     fault: ClusterFault,
 ) -> Fault {
     match fault {
-        ClusterFault::Read(fault) => log_fault(alloc, log, line, fault),
+        ClusterFault::Read(fault) => log_fault(alloc, names.log, reader.audit().line(), fault),
+        ClusterFault::Lines(fault) => {
+            server_log_fault(alloc, names.server_log.unwrap_or(""), reader, fault)
+        }
         ClusterFault::Open(place, fault) => told(alloc, cluster, place, &fault),
         ClusterFault::Level(fault) => lane_fault(fault),
         ClusterFault::Misread(_) | ClusterFault::Untimely => in_words(alloc, &fault),
@@ -87,21 +128,21 @@ fn of_second(alloc: Global, fault: Fault) -> Fault {
     }
 }
 
-/// The fault of a log that was not simulated on two clusters.
+/// The fault of logs that were not simulated on two clusters.
 pub(crate) fn fault_of_both(
     alloc: Global,
     cluster: &Cluster,
     scenario: &Scenario,
-    log: &str,
-    line: &[u8],
+    names: Names<'_>,
+    reader: &JoinedReader,
     fault: BothFault,
 ) -> Fault {
     let BothFault { is_second, fault } = fault;
     if is_second {
-        let fault = fault_of(alloc, &scenario.cluster, log, line, fault);
+        let fault = fault_of(alloc, &scenario.cluster, names, reader, fault);
         return of_second(alloc, fault);
     }
-    fault_of(alloc, cluster, log, line, fault)
+    fault_of(alloc, cluster, names, reader, fault)
 }
 
 /// The fault of a level that is not there.

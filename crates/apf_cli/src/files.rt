@@ -23,10 +23,12 @@ pub enum Input {
     Trace,
     AuditLog,
     Objects,
+    ServerLog,
 }
 
 impl Input {
-    /// The most bytes that the file may have: 64 KiB, 16 MiB, 2 MiB, 64 MiB, 64 MiB and 8 MiB.
+    /// The most bytes that the file may have: 64 KiB, 16 MiB, 2 MiB, 64 MiB, 64 MiB, 8 MiB and 64 MiB. A log that is read in
+    /// pieces may have any length.
     pub fn most(self) -> u32
         ensures { result ≡ most_bytes self }
     {
@@ -37,6 +39,7 @@ impl Input {
             Input::Trace => 67_108_864,
             Input::AuditLog => 67_108_864,
             Input::Objects => 8_388_608,
+            Input::ServerLog => 67_108_864,
         }
     }
 }
@@ -50,6 +53,7 @@ impl fmt::Display for Input {
             Input::Trace => "trace",
             Input::AuditLog => "audit log",
             Input::Objects => "objects",
+            Input::ServerLog => "server log",
         })
     }
 }
@@ -148,6 +152,16 @@ pub trait Files {
     ///
     /// `CannotWrite`, or `NoMemory`.
     fn write(&mut self, name: &str, bytes: &[u8]) -> Result<(), WriteFault>;
+}
+
+/// A file of a command line that is read beside another one.
+pub trait SecondFile {
+    /// Opens the file of this name, or standard input if the name is `-`: it is read from then on, from its beginning.
+    ///
+    /// # Errors
+    ///
+    /// `CannotRead`, or `NoMemory`.
+    fn open_second(&mut self, name: &str) -> Result<(), FileFault>;
 }
 
 /// What `read_some` reads, as it comes.

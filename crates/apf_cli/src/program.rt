@@ -8,11 +8,12 @@ ghost use Rattle.apf_commands.specs.Commands.{is_script_command, is_simulation_c
 ghost use Rattle.apf_commands.specs.Meaning.{IsInRange, words_fault};
 
 use crate::audits::print_trace;
+use crate::cluster_logs::Names;
 use crate::cluster_runs::{Simulated, print_cluster_command};
 use crate::clusters::{print_cluster, print_matches};
 use crate::explaining::print_explanation;
 use crate::faults::{Fault, Sizes};
-use crate::files::{Files, judge_names};
+use crate::files::{Files, SecondFile, judge_names};
 use crate::notes::note_patience;
 use crate::pictures::{Drawn, print_picture};
 use crate::reading::{Explained, level_fault, read_level, script_in};
@@ -27,7 +28,7 @@ use apf_flows::write_escaped;
 use apf_run::{Transcript, replay};
 use clap::error::ErrorKind;
 use std::alloc::{AllocError, Global};
-use std::io::{IsTerminal, Write};
+use std::io::{IsTerminal, Read, Write};
 use std::sync::Wait;
 use std::thread::Threads;
 use std::time::Clock;
@@ -129,11 +130,18 @@ fn print_simulated<F: Files, O: Write, R: Clock, E: Write + IsTerminal>(
 }
 
 // Does what a command asks for, and prints what it says. Where commands have arguments of one kind, its name says which it is.
-fn print_action<F: Files, O: Write, E: Write + IsTerminal, R: Wait + Threads + Sync + Clock>(
+fn print_action<
+    F: Files,
+    S: SecondFile + Read,
+    O: Write,
+    E: Write + IsTerminal,
+    R: Wait + Threads + Sync + Clock,
+>(
     rt: &R,
     alloc: Global,
     action: Action<'_>,
     files: &mut F,
+    beside: &mut S,
     out: &mut O,
     err: &mut E,
 ) -> Result<(), Fault>
@@ -266,7 +274,13 @@ fn print_action<F: Files, O: Write, E: Write + IsTerminal, R: Wait + Threads + S
             against,
             warm_up,
             picture,
+            http_log,
         } => {
+            let names = Names {
+                objects,
+                log,
+                server_log: http_log,
+            };
             let second = Second {
                 changes: changes.as_slice(),
                 against,
@@ -283,7 +297,8 @@ fn print_action<F: Files, O: Write, E: Write + IsTerminal, R: Wait + Threads + S
             print_cluster_command(
                 alloc,
                 files,
-                (objects, log),
+                beside,
+                names,
                 way,
                 (level, trace),
                 second,
@@ -296,18 +311,25 @@ fn print_action<F: Files, O: Write, E: Write + IsTerminal, R: Wait + Threads + S
 }
 
 // The same, with all of it written.
-fn perform<F: Files, O: Write, E: Write + IsTerminal, R: Wait + Threads + Sync + Clock>(
+fn perform<
+    F: Files,
+    S: SecondFile + Read,
+    O: Write,
+    E: Write + IsTerminal,
+    R: Wait + Threads + Sync + Clock,
+>(
     rt: &R,
     alloc: Global,
     action: Action<'_>,
     files: &mut F,
+    beside: &mut S,
     out: &mut O,
     err: &mut E,
 ) -> Result<(), Fault>
     requires { IsInRange action }
     ensures { OnOk result (PrintsFor F.holds action.entry (O.contents out.old) (O.contents out.new)) }
 {
-    print_action(rt, alloc, action, files, out, err)?;
+    print_action(rt, alloc, action, files, beside, out, err)?;
     match out.flush() {
         Ok(()) => Ok(()),
         Err(_) => Err(Fault::CannotWrite),
@@ -360,11 +382,18 @@ fn print_refusal<O: Write, E: Write>(
 }
 
 // Does what the words ask for, or prints what `clap` says of them.
-fn attempt<F: Files, O: Write, E: Write + IsTerminal, R: Wait + Threads + Sync + Clock>(
+fn attempt<
+    F: Files,
+    S: SecondFile + Read,
+    O: Write,
+    E: Write + IsTerminal,
+    R: Wait + Threads + Sync + Clock,
+>(
     rt: &R,
     alloc: Global,
     words: &[&str],
     files: &mut F,
+    beside: &mut S,
     out: &mut O,
     err: &mut E,
 ) -> Result<u8, Fault>
@@ -372,7 +401,7 @@ fn attempt<F: Files, O: Write, E: Write + IsTerminal, R: Wait + Threads + Sync +
 {
     match read_words(alloc, words) {
         Ok(action) => {
-            perform(rt, alloc, action, files, out, err)?;
+            perform(rt, alloc, action, files, beside, out, err)?;
             Ok(0)
         }
         Err(error) => print_refusal(alloc, &error, out, err),
@@ -388,17 +417,24 @@ fn attempt<F: Files, O: Write, E: Write + IsTerminal, R: Wait + Threads + Sync +
 ///
 /// Where there is nothing to say of the words themselves, status 0 means that their command was performed. What is stated of that
 /// is what `run` prints: the book of a run of the files that it names.
-pub fn act<F: Files, O: Write, E: Write + IsTerminal, R: Wait + Threads + Sync + Clock>(
+pub fn act<
+    F: Files,
+    S: SecondFile + Read,
+    O: Write,
+    E: Write + IsTerminal,
+    R: Wait + Threads + Sync + Clock,
+>(
     rt: &R,
     alloc: Global,
     words: &[&str],
     files: &mut F,
+    beside: &mut S,
     out: &mut O,
     err: &mut E,
 ) -> u8
     ensures { words_fault (texts words.entry.now) ≡ [] → result ≡ 0 → Performs F.holds (texts words.entry.now) (O.contents out.old) (O.contents out.new) }
 {
-    match attempt(rt, alloc, words, files, out, err) {
+    match attempt(rt, alloc, words, files, beside, out, err) {
         Ok(status) => status,
         Err(fault) => {
             let _ = fault.write(err);

@@ -156,6 +156,7 @@ fn at_most(input: Input) -> &'static str {
         Input::Trace => "a trace has at most this many",
         Input::AuditLog => "an audit log has at most this many",
         Input::Objects => "objects have at most this many",
+        Input::ServerLog => "a server log has at most this many",
     }
 }
 

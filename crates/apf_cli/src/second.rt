@@ -7,7 +7,7 @@ ghost use Rattle.apf_objects.specs.Cluster.{HasCatchAll, most_levels};
 use crate::changes::changed;
 use crate::clusters::{read_cluster, read_other, read_twice};
 use crate::faults::Fault;
-use crate::files::{Files, judge_names};
+use crate::files::Files;
 use apf_changes::Scenario;
 use apf_objects::Cluster;
 use std::alloc::Global;
@@ -25,18 +25,6 @@ impl Second<'_> {
     /// Whether there is one.
     pub(crate) fn is_asked(&self) -> bool {
         self.against.is_some() || !self.changes.is_empty()
-    }
-}
-
-/// At most one of the files is standard input: of the objects, of the log, and of the objects of the second cluster.
-///
-/// # Errors
-///
-/// `TwoInputs`.
-pub(crate) fn judge_all_names(names: (&str, &str), second: Second<'_>) -> Result<(), Fault> {
-    match second.against {
-        Some(against) => judge_names(&[names.0, names.1, against]),
-        None => judge_names(&[names.0, names.1]),
     }
 }
 

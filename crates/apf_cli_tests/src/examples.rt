@@ -3,7 +3,7 @@
 ghost use Rattle.std.specs.Prelude.{◌≤◌, IfOk, vec_len};
 
 use crate::screen::Screen;
-use apf_cli::{Cause, FileFault, Files, WriteFault, act};
+use apf_cli::{Cause, FileFault, Files, SecondFile, WriteFault, act};
 use std::alloc::Global;
 use std::io;
 use std::io::Read;
@@ -54,7 +54,7 @@ impl<'a> Memory<'a> {
     }
 }
 
-impl Files for Memory<'_> {
+impl<'a> Files for Memory<'a> {
     fn read(&mut self, name: &str, most: u32) -> Result<Vec<u8>, FileFault> {
         bytes_of(self.alloc, self.text(name)?, most)
     }
@@ -88,6 +88,37 @@ impl Files for Memory<'_> {
     }
 }
 
+/// The script, which is read beside another file. Standard input has it too.
+#[derive(Drop)]
+pub struct Script<'a> {
+    text: &'a str,
+    // what is left to be read of it
+    rest: &'a [u8],
+}
+
+impl<'a> Script<'a> {
+    /// It is not open yet.
+    pub fn of(text: &'a str) -> Script<'a> {
+        Script { text, rest: &[] }
+    }
+}
+
+impl SecondFile for Script<'_> {
+    fn open_second(&mut self, name: &str) -> Result<(), FileFault> {
+        if name != "script" && name != "-" {
+            return Err(FileFault::CannotRead(Cause::Absent));
+        }
+        self.rest = self.text.as_bytes();
+        Ok(())
+    }
+}
+
+impl Read for Script<'_> {
+    fn read(&mut self, into: &mut [u8]) -> io::Result<usize> {
+        self.rest.read(into)
+    }
+}
+
 /// The program answers this status, and writes this and no more, where standard error is a terminal or none.
 pub fn check<R: Abort + Wait + Threads + Sync + Clock>(
     rt: &R,
@@ -102,7 +133,16 @@ pub fn check<R: Abort + Wait + Threads + Sync + Clock>(
     let mut stdout = Vec::new(files.alloc);
     let mut stderr = Screen::new(files.alloc, is_terminal);
     let alloc = files.alloc;
-    let answer = act(rt, alloc, words, &mut files, &mut stdout, &mut stderr);
+    let mut beside = Script::of(files.script);
+    let answer = act(
+        rt,
+        alloc,
+        words,
+        &mut files,
+        &mut beside,
+        &mut stdout,
+        &mut stderr,
+    );
     assert_eq!(rt; answer, status, "{words:?}");
     assert_eq!(rt; stdout.as_slice(), out.as_bytes(), "{words:?}");
     assert_eq!(rt; stderr.bytes.as_slice(), err.as_bytes(), "{words:?}");

@@ -6,11 +6,14 @@
 //!
 //! - `words`: what a command line asks for.
 //! - `screen`: standard error in memory.
-//! - `examples`: the whole program with files in memory. `rooms`: the same with output that has no room.
+//! - `examples`: the whole program with files in memory. `rooms`: the same with output that has no room. `logs`: the same with two logs
+//!   that are read side by side.
 #![tactic(auto)]
 
 #[cfg(test)]
 mod examples;
+#[cfg(test)]
+mod logs;
 #[cfg(test)]
 mod rooms;
 #[cfg(test)]

@@ -1,6 +1,6 @@
 //! Output that has no room at one place or another.
 
-use crate::examples::Memory;
+use crate::examples::{Memory, Script};
 use crate::screen::Screen;
 use apf_cli::act;
 use std::alloc::{AllocError, Global};
@@ -57,7 +57,16 @@ fn writes_a_beginning<R: Abort + Wait + Threads + Sync + Clock>(
     let mut stderr = Screen::new(alloc, false);
     let mut buffer = vec![in alloc; 0u8; whole.len()]?;
     let (mut rest, _beyond) = buffer.as_mut_slice().split_at_mut(room.min(whole.len()));
-    let answer = act(rt, alloc, words, &mut files, &mut rest, &mut stderr);
+    let mut beside = Script::of("");
+    let answer = act(
+        rt,
+        alloc,
+        words,
+        &mut files,
+        &mut beside,
+        &mut rest,
+        &mut stderr,
+    );
     let written = room.saturating_sub(rest.len());
     assert_eq!(rt; answer, 1, "{words:?} with room for {room}");
     assert_eq!(rt; stderr.bytes.as_slice(), b"apf: cannot write\n".as_slice());
@@ -75,7 +84,16 @@ fn fails_at_places<R: Abort + Wait + Threads + Sync + Clock>(
     let mut first = files;
     let mut whole = Vec::new(files.alloc);
     let mut stderr = Screen::new(files.alloc, false);
-    let answer = act(rt, files.alloc, words, &mut first, &mut whole, &mut stderr);
+    let mut beside = Script::of("");
+    let answer = act(
+        rt,
+        files.alloc,
+        words,
+        &mut first,
+        &mut beside,
+        &mut whole,
+        &mut stderr,
+    );
     assert_eq!(rt; answer, 0, "{words:?}");
     assert!(rt; !whole.is_empty(), "{words:?}");
     for room in 0..whole.len() {
@@ -128,7 +146,16 @@ fn line_without_room(rt: HostRuntime) -> Result<(), AllocError> {
         let mut stderr = Screen::new(rt.alloc(), false);
         let mut buffer = vec![in rt.alloc(); 0u8; room]?;
         let mut rest = buffer.as_mut_slice();
-        let answer = act(&rt, rt.alloc(), &words, &mut files, &mut rest, &mut stderr);
+        let mut beside = Script::of("");
+        let answer = act(
+            &rt,
+            rt.alloc(),
+            &words,
+            &mut files,
+            &mut beside,
+            &mut rest,
+            &mut stderr,
+        );
         assert_eq!(&rt; answer, 1, "with room for {room}");
         assert_eq!(&rt; stderr.bytes.as_slice(), b"apf: cannot write\n".as_slice());
     }

@@ -616,19 +616,28 @@ fn reads_changes_in_their_order(rt: HostRuntime) -> Result<(), Fail> {
         "--warm-up=60s",
         "--picture",
         "f",
+        "--http-log=h",
     ];
     let without = ["apf", "cluster", "o", "l", "15s"];
     let wanted = ["b.shares=1", "a.shares=2", "b.shares=1"];
     let nothing: [&str; 0] = [];
-    for (words, wanted, other, warm_up, picture) in [
+    for (words, wanted, other, warm_up, picture, http_log) in [
         (
             set.as_slice(),
             wanted.as_slice(),
             Some("p"),
             Some("60s"),
             Some("f"),
+            Some("h"),
         ),
-        (without.as_slice(), nothing.as_slice(), None, None, None),
+        (
+            without.as_slice(),
+            nothing.as_slice(),
+            None,
+            None,
+            None,
+            None,
+        ),
     ] {
         reads(
             &rt,
@@ -650,6 +659,7 @@ fn reads_changes_in_their_order(rt: HostRuntime) -> Result<(), Fail> {
                     against: other,
                     warm_up,
                     picture,
+                    http_log,
                 },
             },
         )?;

@@ -7,6 +7,7 @@
 //! - `matching`: the schema of a request.
 //! - `log_lines`: the lines of an audit log, which is read in pieces.
 //! - `events`: the requests of an audit log. `unsaid`: what such a log does not say of them.
+//! - `server_lines`: what the server's own log says of them. `server_faults`: the line of a fault of that log. `said`: a text of it.
 #![tactic(auto)]
 
 mod events;
@@ -16,6 +17,9 @@ mod listing;
 mod log_lines;
 mod matching;
 mod path;
+mod said;
+mod server_faults;
+mod server_lines;
 mod unsaid;
 
 pub use events::{LogFault, write_log};
@@ -23,4 +27,6 @@ pub use faults::write_object_fault;
 pub use listing::write_cluster;
 pub use log_lines::{Found, LogLines};
 pub use matching::write_match;
+pub use server_faults::write_server_fault;
+pub use server_lines::write_server_object;
 pub use unsaid::write_unsaid;

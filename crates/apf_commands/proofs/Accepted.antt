@@ -196,7 +196,7 @@ match_given name words e =
 cluster_given : (name : Text) (words : List Text) → IsFaultFree (of_kind name Cluster) words → HasArguments Cluster (rows_after (of_kind name Cluster).rules [] words)
 unfolding apf_app
 cluster_given name words e =
-    let plain : IsPlainShape (of_kind name Cluster) = record { rules = refl; own_ids = (refl, (refl, (refl, (refl, (refl, (refl, (refl, (refl, (refl, (refl, (refl, (refl, (refl, (refl, tt)))))))))))))); negates = refl } in
+    let plain : IsPlainShape (of_kind name Cluster) = record { rules = refl; own_ids = (refl, (refl, (refl, (refl, (refl, (refl, (refl, (refl, (refl, (refl, (refl, (refl, (refl, (refl, (refl, tt))))))))))))))); negates = refl } in
     let given = all_given (of_kind name Cluster) plain words e in
     let met = all_met (of_kind name Cluster) plain words e in
     let filled = all_filled (of_kind name Cluster) plain words e in

@@ -40,7 +40,7 @@ in_range name rows action is named = go action.arguments known is.arguments name
     go (AuditLog log schema chosen) known read named = record { command = known; workers = tt; rounds = tt; slots = tt; seats = tt; name = tt }
     go (Objects objects seats) known read named = record { command = known; workers = tt; rounds = tt; slots = tt; seats = (read.1.1, read.1.2); name = tt }
     go (Match objects asked) known read named = record { command = known; workers = tt; rounds = tt; slots = tt; seats = tt; name = tt }
-    go (Cluster objects log patience seats flows json no_lending level trace changes against warm_up picture) known read named = record { command = known; workers = tt; rounds = tt; slots = tt; seats = (read.3.1, read.3.2); name = tt }
+    go (Cluster objects log patience seats flows json no_lending level trace changes against warm_up picture http_log) known read named = record { command = known; workers = tt; rounds = tt; slots = tt; seats = (read.3.1, read.3.2); name = tt }
 
 -- the arguments of another command have no fault of a level's name
 other_kind : (name : Text) (rows : List Row) (kind : Kind) → kind_named name ≡ Some kind → is_open_level (Some kind) ≡ false → name_fault (Some (name, rows)) ≡ []
@@ -71,7 +71,7 @@ no_name_fault name rows action is named = go action.arguments is.kind is.argumen
     go (AuditLog log schema chosen) kind read named = other_kind name rows _ kind refl
     go (Objects objects seats) kind read named = other_kind name rows _ kind refl
     go (Match objects asked) kind read named = other_kind name rows _ kind refl
-    go (Cluster objects log patience seats flows json no_lending level trace changes against warm_up picture) kind read named = other_kind name rows _ kind refl
+    go (Cluster objects log patience seats flows json no_lending level trace changes against warm_up picture http_log) kind read named = other_kind name rows _ kind refl
 
 -- words whose action has another have it
 pub has_name_fault : (name : Text) (rows : List Row) (action : Action) → AsksFor name rows action → HasBadName action.arguments
@@ -94,7 +94,7 @@ has_name_fault name rows action is named = go action.arguments is.kind is.argume
     go (AuditLog log schema chosen) kind read named = absurd named
     go (Objects objects seats) kind read named = absurd named
     go (Match objects asked) kind read named = absurd named
-    go (Cluster objects log patience seats flows json no_lending level trace changes against warm_up picture) kind read named = absurd named
+    go (Cluster objects log patience seats flows json no_lending level trace changes against warm_up picture http_log) kind read named = absurd named
 
 -- an action that is judged is answered where nothing is wrong with its name, and fails by the fault of that
 pub judged_fails : (kinds : Kinds) (action : Action) (r : Result Action Error) → (HasLevelName action.arguments → kinds ≡ []) → (HasBadName action.arguments → kinds ≡ ValueValidation ∷ [])

@@ -183,7 +183,7 @@ rules_of Cluster =
     text_rule (codes "OBJECTS") ∷ text_rule (codes "AUDITLOG") ∷ text_rule (codes "PATIENCE") ∷ number_option_rule (codes "seats") seat_count
     ∷ number_option_rule (codes "flows") flow_count ∷ flag_rule (codes "json") ∷ flag_rule (codes "no-lending") ∷ option_rule (codes "level")
     ∷ flag_rule (codes "trace") ∷ repeated_rule (codes "set") ∷ option_rule (codes "against") ∷ option_rule (codes "warm-up")
-    ∷ option_rule (codes "picture") ∷ []
+    ∷ option_rule (codes "picture") ∷ option_rule (codes "http-log") ∷ []
 
 -- a command that takes these arguments
 abbrev pub command_shape : Text → List Rule → Shape

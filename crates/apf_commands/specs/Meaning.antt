@@ -132,7 +132,7 @@ AreArguments rows (Objects objects seats) = IsText rows (codes "OBJECTS") object
     × IsSeatCount rows seats
 AreArguments rows (Match objects asked) = IsText rows (codes "OBJECTS") objects.now
     × AreAsked rows asked
-AreArguments rows (Cluster objects log patience seats flows json no_lending level trace changes against warm_up picture) = IsText rows (codes "OBJECTS") objects.now
+AreArguments rows (Cluster objects log patience seats flows json no_lending level trace changes against warm_up picture http_log) = IsText rows (codes "OBJECTS") objects.now
     × IsText rows (codes "AUDITLOG") log.now
     × IsText rows (codes "PATIENCE") patience.now
     × IsSeatCount rows seats
@@ -145,6 +145,7 @@ AreArguments rows (Cluster objects log patience seats flows json no_lending leve
     × IsOption rows (codes "against") against
     × IsOption rows (codes "warm-up") warm_up
     × IsOption rows (codes "picture") picture
+    × IsOption rows (codes "http-log") http_log
 
 -- the kind of arguments
 abbrev pub kind_of : Arguments → Kind
@@ -162,7 +163,7 @@ kind_of (Flows a b c) = of_kind.Flows
 kind_of (AuditLog a b c) = of_kind.AuditLog
 kind_of (Objects a b) = of_kind.Objects
 kind_of (Match a b) = of_kind.Match
-kind_of (Cluster a b c d e f g h i j k l m) = of_kind.Cluster
+kind_of (Cluster a b c d e f g h i j k l m n) = of_kind.Cluster
 
 -- a command of this name with these rows asks for the action: it is named so, and its arguments are of the kind that the command has
 pub record AsksFor (name : Text) (rows : List Row) (action : Action) : Type 0 where
@@ -188,7 +189,7 @@ HasSlots _ = Unit {0}
 -- a server whose limits are told has 1 to 1,000,000 seats
 abbrev pub HasSeats : Arguments → Type 0
 HasSeats (Objects objects seats) = (1 ≤ seats) × (seats ≤ 1000000)
-HasSeats (Cluster objects log patience seats flows json no_lending level trace changes against warm_up picture) = (1 ≤ seats) × (seats ≤ 1000000)
+HasSeats (Cluster objects log patience seats flows json no_lending level trace changes against warm_up picture http_log) = (1 ≤ seats) × (seats ≤ 1000000)
 HasSeats _ = Unit {0}
 
 -- a level that stays open has a name that a level may have

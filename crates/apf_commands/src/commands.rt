@@ -58,6 +58,9 @@ const WARM_UP: &str = "Counts no request that comes before this time, as 60s";
 /// What help says of the file of a picture.
 const PICTURE: &str = "Draws the levels over time into this file, as SVG";
 
+/// What help says of the server's own log.
+const HTTP_LOG: &str = "Server's own log, whose lines say how many seats each request takes";
+
 /// What help says below the commands: the program's statuses, and how to begin.
 const HELP: &str = "\
 Status:
@@ -415,7 +418,7 @@ fn with_cluster_print<'a>(alloc: Global, command: Command<'a>) -> Result<Command
         ))
 }
 
-// The same, a second cluster, from when on requests are counted, and a picture.
+// The same, a second cluster, from when on requests are counted, a picture, and the server's own log.
 fn with_cluster<'a>(alloc: Global, command: Command<'a>) -> Result<Command<'a>, AllocError>
     ensures { IfOk result (AddsRules (rules_of of_kind.Cluster) command.entry) }
 {
@@ -423,7 +426,8 @@ fn with_cluster<'a>(alloc: Global, command: Command<'a>) -> Result<Command<'a>, 
         .arg(repeated(alloc, "set", "KEY=VALUE", SET))?
         .arg(option(alloc, "against", "OBJECTS", AGAINST))?
         .arg(option(alloc, "warm-up", "TIME", WARM_UP))?
-        .arg(option(alloc, "picture", "FILE", PICTURE))
+        .arg(option(alloc, "picture", "FILE", PICTURE))?
+        .arg(option(alloc, "http-log", "FILE", HTTP_LOG))
 }
 
 // A command with the arguments of this kind behind its own.

@@ -401,6 +401,10 @@ With --json each line is a JSON object, with times in microseconds, and seatTime
 With --picture FILE the levels are drawn over time, as SVG: the seats in use, the limit, who waits,
 and who was rejected. Where a second cluster runs, each level has two strips.
 
+With --http-log FILE the server's own log is read beside AUDITLOG: what klog writes with -v=3. A
+request whose line stands there, by its audit id, takes the seats that the line says, and runs as
+long. The last lines say how many requests these are, and how many have the same schema there.
+
 With --level NAME --trace the requests of the level NAME are printed as a trace, for simulate, fates
 and picture, and nothing is simulated. Their times are from the first request of the whole log.
 

@@ -120,7 +120,7 @@ pub enum Arguments<'a> {
     /// The names of a file of objects and of an audit log, the words of a patience, how many seats the server has, 1 to 1,000,000, how
     /// many flows are told, 0 to 1,000,000, whether JSON is asked for, whether no seats are lent, the name of a level, whether its
     /// requests are asked for as a trace, of a second cluster the changes, in their order, and the name of the file of its objects, the
-    /// words of the time from which on requests are counted, and the name of the file of a picture.
+    /// words of the time from which on requests are counted, the name of the file of a picture, and the name of the server's own log.
     Cluster {
         objects: &'a str,
         log: &'a str,
@@ -135,6 +135,7 @@ pub enum Arguments<'a> {
         against: Option<&'a str>,
         warm_up: Option<&'a str>,
         picture: Option<&'a str>,
+        http_log: Option<&'a str>,
     },
 }
 
@@ -476,6 +477,7 @@ fn cluster_of<'a>(alloc: Global, matches: &ArgMatches<'a>) -> Result<Arguments<'
         against: option_of(matches, "against"),
         warm_up: option_of(matches, "warm-up"),
         picture: option_of(matches, "picture"),
+        http_log: option_of(matches, "http-log"),
     })
 }
 

@@ -8,7 +8,7 @@ import sys
 
 HERE = os.path.dirname(os.path.abspath(__file__))
 sys.path.insert(0, os.path.join(HERE, "lib"))
-from clusters import EVERYTHING, Clusters, level_object, level_of, log_of, notes_of, objects_in, objects_of, parts_of, read_by, table, whole_cluster
+from clusters import EVERYTHING, HALF, SECOND, Clusters, level_object, level_of, log_of, notes_of, objects_in, objects_of, parts_of, read_by, table, whole_cluster
 from harness import Files, Tally, build, run
 from lending import PERIOD, Claim, division, limit_of, observed_of, smoothed_of, stretches_of, way_of
 
@@ -20,8 +20,6 @@ seed = int(os.environ.get("APF_SEED", "4712"))
 draw = random.Random(seed)
 clusters = Clusters(draw)
 LENT = int(os.environ.get("APF_CLUSTERS", "150"))
-SECOND, HALF = 1_000_000, PERIOD // 2
-USERS = "abcd"
 print(f"seed {seed}")
 
 
@@ -40,52 +38,13 @@ tally.check("the least limits", division(15, claims((5, 10, 50, 60_000), (10, 12
 tally.check("the greatest limits", division(61, claims((5, 10, 50, 60_000), (1, 1, 10, 1_000), (0, 0, 9, 0))), [50, 10, 9])
 tally.check("just the greatest limits", division(60, claims((5, 10, 50, 60_000), (1, 1, 10, 1_000), (0, 0, 9, 0))), [50, 10, 0])
 # 4 seats for 2 s, 10 for 1 s, and none for 7 s: the root of 13.2 - 3.24 is 3.155
-stretches = stretches_of([(3, 2_000_000)] * 3 + [(-5, 2_000_000), (7, 7)] + [(2_000_000, 3_000_000)] * 10, 0, PERIOD)
+stretches = stretches_of([(3, 2_000_000, 1)] * 3 + [(-5, 2_000_000, 1), (7, 7, 1)] + [(2_000_000, 3_000_000, 1)] * 8 + [(2_000_000, 3_000_000, 2)], 0, PERIOD)
 tally.check("the stretches of a period", stretches, [(1, 3), (4, 1_999_997), (10, SECOND), (0, 7 * SECOND)])
 tally.check("a demand", observed_of([(4, 2 * SECOND), (10, SECOND), (0, 7 * SECOND)]), (10, 1_800, 3_155))
 tally.check("what was asked for once falls", [smoothed_of(4_955, observed_of([(0, 5)])), smoothed_of(1, observed_of([(0, 5)]))], [4_841, 0])
 
 
-# ---- what is drawn
-
-
-def drawn_cluster():
-    """A cluster with a level for each user, where two may share one, and whose names are some of a server's own."""
-    names, levels = draw.sample(["low", "high", "node", "exempt", "catch-all"], draw.randint(2, 4)), []
-    if draw.random() < 0.03:
-        # as many as there may be
-        names += [f"level-{number}" for number in range(64 - len(names))]
-    for name in names:
-        exempt = name == "exempt" or (name != "catch-all" and draw.random() < 0.1)
-        queuing = draw.choice([None, (8, 2, 3), (4, 2, 50), (64, 6, 2), (16, 4, 50), (1, 1, 1000)])
-        shares = draw.choice([1, 5, 30, 30, 30, 100])
-        levels.append(level_of(name, shares, None if exempt else queuing, exempt, **clusters.lending()))
-    if draw.random() < 0.5 and "catch-all" not in names and len(names) < 64:
-        levels.append(level_of("catch-all", 0))
-    schemas = []
-    for user in USERS:
-        by = draw.choice(["user", "namespace", "nothing"])
-        schemas.append({"name": f"of-{user}", "level": draw.choice(levels)["name"], "by": by, "rules": [([("User", user)], *EVERYTHING)]})
-    return whole_cluster(levels, schemas, draw.shuffle)
-
-
-def drawn_log():
-    """A log of up to a minute, and now and then of more: each user comes in a few stretches. Of some all begins and ends with a period, or halfway."""
-    length, is_even = draw.choice([0, 3, 12, 30, 60]) * SECOND, draw.random() < 0.4
-    coming = [(0, draw.choice([0, SECOND, 12 * SECOND]), draw.choice(USERS))]
-    for user in USERS:
-        for _ in range(draw.choice([0, 1, 1, 2, 3])):
-            # in front of some stretches nobody comes for some periods
-            time = draw.randrange(length + 1) + draw.choice([0, 0, 0, 0, 40 * SECOND])
-            gap = draw.choice([0, 1, 1000, 100_000, SECOND])
-            run_for = draw.choice([0, 50_000, SECOND, 5 * SECOND, 10 * SECOND, 15 * SECOND])
-            if is_even:
-                time, gap, run_for = HALF * round(time / HALF), draw.choice([0, HALF]), HALF * draw.randrange(4)
-            for _ in range(draw.choice([1, 5, 20, 40])):
-                coming.append((time, draw.choice([run_for, run_for, 0 if is_even else draw.randrange(run_for + 1)]), user))
-                time += draw.choice([0, gap, 2 * gap])
-    return clusters.lines(clusters.event(*it) for it in sorted(coming))
-
+# ---- drawn clusters
 
 met = dict.fromkeys(["adjusted", "moved", "borrowed", "lent", "over the limit", "exempt", "behind the last", "quiet", "least", "part", "factor", "most", "gave up", "warmed up"], 0)
 
@@ -130,8 +89,8 @@ def drawn_words(objects, content, seats, patience):
 
 
 for number in range(LENT):
-    objects, levels, schemas = drawn_cluster()
-    content = drawn_log()
+    objects, levels, schemas = clusters.lending_cluster()
+    content = clusters.moving_log()
     seats, patience = draw.choice([1, 3, 10, 10, 20, 40, 5000]), draw.choice([0, SECOND, HALF, PERIOD, 3 * HALF, 60 * SECOND])
     read = read_by(schemas, content)
     words = [*drawn_words(objects, content, seats, patience), "--flows", "1000000"]
@@ -161,14 +120,14 @@ if LENT >= 100:
 # ---- levels that neither lend nor borrow have what they have without lending
 
 for number in range(10):
-    objects, levels, schemas = drawn_cluster()
+    objects, levels, schemas = clusters.lending_cluster()
     for it in objects["items"]:
         for part in ("limited", "exempt"):
             if part in it["spec"]:
                 it["spec"][part] |= {"lendablePercent": 0} | ({"borrowingLimitPercent": 0} if part == "limited" else {})
     given = {it["metadata"]["name"] for it in objects["items"]}
     objects["items"] += [level_object(level_of(it["name"], it["shares"], borrowing=0)) for it in levels if it["name"] not in given and not it["exempt"]]
-    words = drawn_words(objects, drawn_log(), 10, 5 * SECOND)
+    words = drawn_words(objects, clusters.moving_log(), 10, 5 * SECOND)
     tally.check(f"{number}: nothing to lend", run(program, words), run(program, [*words, "--no-lending"]))
 
 # ---- clusters worked by hand, of 10 seats: two levels have 5 each, where nothing else is said

@@ -41,12 +41,14 @@ tight = files("tight", '{"limit":1,"queues":1,"handSize":1,"queueLengthLimit":1}
 # events that are taken, with a wait and out of order, and one that is not
 log = files(
     "log",
-    '{"stage":"ResponseComplete","verb":"get","user":{"username":"b"},"requestReceivedTimestamp":"2026-11-25T12:00:00.000002Z",'
+    '{"auditID":"b","stage":"ResponseComplete","verb":"get","user":{"username":"b"},"requestReceivedTimestamp":"2026-11-25T12:00:00.000002Z",'
     '"stageTimestamp":"2026-11-25T12:00:00.000009Z","annotations":{"apiserver.latency.k8s.io/apf-queue-wait":"3µs"}}\n'
     '{"stage":"ResponseComplete","verb":"list","user":{"username":"c"},"requestReceivedTimestamp":"2026-11-25T12:00:00.000001Z",'
     '"stageTimestamp":"2026-11-25T12:00:00.000009Z"}\n'
     '{"stage":"RequestReceived","verb":"get"}\n',
 )
+# the server's own lines: one of another request, which is held, and one that names another schema
+servers = files("servers", "".join(f'I1125 12:00:00.000000 1 httplog.go:1] "HTTP" audit-ID="{it}" apf_fs="{it}" apf_iseats=2 apf_execution_time="3us"\n' for it in "ab"))
 # objects with rules of each kind, and with a fault
 cluster = os.path.join(HERE, "..", "examples", "cluster", "objects.json")
 spoilt = files("spoilt", '{"kind":"FlowSchema","apiVersion":"flowcontrol.apiserver.k8s.io/v1","metadata":{"name":"a"},"spec":5}')
@@ -103,6 +105,7 @@ for words, status in (
     (["match", cluster, "--log", log], 0),
     (["cluster", few, log, "5us"], 0),
     (["cluster", few, log, "5us", *changes], 0),
+    (["cluster", few, log, "5us", "--http-log", servers], 0),
     (["cluster", few, log, "5us", "--set", "low.seats=2", "--warm-up", "1us", "--picture", drawn], 0),
     (["cluster", few, log, "5us", "--against", few, "--json", "--set", "low.response=Reject"], 0),
     (["cluster", few, log, "5us", "--set", "low.share=5"], 2),

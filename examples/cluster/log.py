@@ -4,7 +4,10 @@
 From the thirtieth second to the ninetieth the account `importer` of the namespace `batch` lists far more than its level can serve, and its server turned a
 part of that away. A server writes an event when the request has ended, so a long one stands late.
 
-usage: log.py [EVENTS]
+The server's own log can be written beside it: a line of each request, as klog writes it with -v=3. There the lists of `importer` take one to four seats,
+one of twenty other lists takes ten, and each other request takes one.
+
+usage: log.py [EVENTS [SERVERLOG]]
 """
 
 import json
@@ -13,7 +16,8 @@ import sys
 from heapq import heappop, heappush
 
 count = int(sys.argv[1]) if len(sys.argv) > 1 else 100_000
-draw, write = random.Random(1040).random, sys.stdout.write
+server_log = open(sys.argv[2], "w") if len(sys.argv) > 2 else None
+draw, draw_seats, write = random.Random(1040).random, random.Random(1041).random, sys.stdout.write
 LEASE, PODS = {"resource": "leases", "apiGroup": "coordination.k8s.io", "apiVersion": "v1"}, {"resource": "pods", "apiVersion": "v1"}
 
 
@@ -48,8 +52,47 @@ def request(second):
     return account(f"team-{pick}", "app"), "list", {**PODS, "namespace": f"team-{pick}"}, 0.4 * long, False
 
 
+def schema(user, target):
+    """The schema of the request in the example's cluster, and its level."""
+    name = user["username"]
+    if not target:
+        return "probes", "exempt"
+    if target["resource"] == "leases":
+        return ("system-node-high", "node-high") if "node" in name else ("system-leader-election", "leader-election")
+    if name.startswith("system:node:"):
+        return "system-nodes", "system"
+    if name == "system:kube-controller-manager":
+        return "kube-controller-manager", "workload-high"
+    if name.startswith("system:serviceaccount:kube-system:"):
+        return "kube-system-service-accounts", "workload-high"
+    return ("service-accounts", "workload-low") if "serviceaccount" in name else ("global-default", "global-default")
+
+
+def seats(user, verb):
+    """How many seats the request takes."""
+    pick = draw_seats()
+    if user["username"].endswith(":importer"):
+        return 1 + int(4 * pick)
+    return 10 if verb == "list" and pick < 0.05 else 1
+
+
+def line(event, runs):
+    """What the server's own log says of the request, which runs so many microseconds."""
+    (name, level), took = schema(event["user"], event.get("objectRef")), f"{runs / 1000:.3f}ms"
+    said = f'verb="{event["verb"].upper()}" URI="{event["requestURI"]}" latency="{took}" userAgent="" audit-ID="{event["auditID"]}" srcIP="10.0.0.7:443"'
+    asked = f'apf_pl="{level}" apf_fs="{name}" apf_iseats={seats(event["user"], event["verb"])} apf_fseats=0 apf_additionalLatency="0s"'
+    time = event["stageTimestamp"][11:-1]
+    return f'I1125 {time}       1 httplog.go:132] "HTTP" {said} {asked} apf_execution_time="{took}" resp={event["responseStatus"]["code"]}\n'
+
+
 def time_text(micros):
     return f"2026-11-25T12:{micros // 60_000_000:02}:{micros // 1_000_000 % 60:02}.{micros % 1_000_000:06}Z"
+
+
+def put(text, said):
+    write(text)
+    if server_log:
+        server_log.write(said)
 
 
 now, ending = 0, []
@@ -61,8 +104,8 @@ for number in range(count):
     event |= {"requestURI": "/api/v1" if target else "/healthz", "verb": verb, "user": user}
     event |= {"objectRef": target} if target else {}
     event |= {"responseStatus": {"code": 429 if away else 200}, "requestReceivedTimestamp": time_text(now), "stageTimestamp": time_text(end)}
-    heappush(ending, (end, number, json.dumps(event, separators=(",", ":")) + "\n"))
+    heappush(ending, (end, number, json.dumps(event, separators=(",", ":")) + "\n", line(event, end - now) if server_log else ""))
     while ending and ending[0][0] <= now:
-        write(heappop(ending)[2])
-for _, _, line in sorted(ending):
-    write(line)
+        put(*heappop(ending)[2:])
+for it in sorted(ending):
+    put(*it[2:])

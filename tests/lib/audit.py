@@ -308,11 +308,11 @@ Read = collections.namedtuple("Read", "requests unnamed is_cut fault")
 
 
 class Handed(tuple):
-    """A request that is handed out, with the line of its event."""
+    """A request that is handed out, with the line of its event, and its seats."""
 
-    def __new__(cls, line, parts):
+    def __new__(cls, line, parts, width=1):
         self = super().__new__(cls, parts)
-        self.line = line
+        self.line, self.width = line, width
         return self
 
 

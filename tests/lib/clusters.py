@@ -12,6 +12,9 @@ from matching import distinguisher_of, schema_of
 from simulation import Run, nearest_rank, shown_rank
 
 API = "flowcontrol.apiserver.k8s.io/v1"
+SECOND, HALF = 1_000_000, PERIOD // 2
+# who comes in drawn logs where nobody else is named
+USERS = "abcd"
 
 
 # ---- what is drawn
@@ -155,15 +158,53 @@ class Clusters:
             lines.append(b'{"stage":"ResponseComp')
         return b"".join(lines)
 
-    def log(self, paces):
-        """A log of few users, with one of these paces."""
+    def log(self, paces, users=USERS):
+        """A log of these users, with one of these paces."""
         draw, pace = self.draw, self.draw.choice(paces)
         time, events = 0, []
         for _ in range(draw.choice([0, 1, 20, 150, 400])):
             time += draw.choice([0, 0, 1, pace // 2, pace])
             run_for = draw.choice([0, 1, pace, 10 * pace, draw.randrange(20 * pace)])
-            events.append(self.event(time, run_for, draw.choice("abcd")))
+            events.append(self.event(time, run_for, draw.choice(users)))
         return self.lines(events)
+
+    def lending_cluster(self):
+        """A cluster with a level for each user, where two may share one, and whose names are some of a server's own."""
+        draw = self.draw
+        names, levels = draw.sample(["low", "high", "node", "exempt", "catch-all"], draw.randint(2, 4)), []
+        if draw.random() < 0.03:
+            # as many as there may be
+            names += [f"level-{number}" for number in range(64 - len(names))]
+        for name in names:
+            exempt = name == "exempt" or (name != "catch-all" and draw.random() < 0.1)
+            queuing = draw.choice([None, (8, 2, 3), (4, 2, 50), (64, 6, 2), (16, 4, 50), (1, 1, 1000)])
+            shares = draw.choice([1, 5, 30, 30, 30, 100])
+            levels.append(level_of(name, shares, None if exempt else queuing, exempt, **self.lending()))
+        if draw.random() < 0.5 and "catch-all" not in names and len(names) < 64:
+            levels.append(level_of("catch-all", 0))
+        schemas = []
+        for user in USERS:
+            by = draw.choice(["user", "namespace", "nothing"])
+            schemas.append({"name": f"of-{user}", "level": draw.choice(levels)["name"], "by": by, "rules": [([("User", user)], *EVERYTHING)]})
+        return whole_cluster(levels, schemas, draw.shuffle)
+
+    def moving_log(self):
+        """A log of up to a minute, and now and then of more: each user comes in a few stretches. Of some all begins and ends with a period, or halfway."""
+        draw = self.draw
+        length, is_even = draw.choice([0, 3, 12, 30, 60]) * SECOND, draw.random() < 0.4
+        coming = [(0, draw.choice([0, SECOND, 12 * SECOND]), draw.choice(USERS))]
+        for user in USERS:
+            for _ in range(draw.choice([0, 1, 1, 2, 3])):
+                # in front of some stretches nobody comes for some periods
+                time = draw.randrange(length + 1) + draw.choice([0, 0, 0, 0, 40 * SECOND])
+                gap = draw.choice([0, 1, 1000, 100_000, SECOND])
+                run_for = draw.choice([0, 50_000, SECOND, 5 * SECOND, 10 * SECOND, 15 * SECOND])
+                if is_even:
+                    time, gap, run_for = HALF * round(time / HALF), draw.choice([0, HALF]), HALF * draw.randrange(4)
+                for _ in range(draw.choice([1, 5, 20, 40])):
+                    coming.append((time, draw.choice([run_for, run_for, 0 if is_even else draw.randrange(run_for + 1)]), user))
+                    time += draw.choice([0, gap, 2 * gap])
+        return self.lines(self.event(*it) for it in sorted(coming))
 
 
 # ---- the independent cluster
@@ -190,21 +231,21 @@ def config_of(level, nominal):
     return {"limit": limit, "queues": queues, "handSize": hand, "queueLengthLimit": length, "limitResponse": "Queue"}
 
 
-def request_of(received, run_for, flow):
+def request_of(received, run_for, flow, width=1):
     """A request as a line of a trace has it."""
     names = flow.schema, str(flow)
-    return {"arrivesAt": received, "runsFor": run_for, "flow": names, "hash": hash_of(*names), "names": names, "width": 1, "cost": None}
+    return {"arrivesAt": received, "runsFor": run_for, "flow": names, "hash": hash_of(*names), "names": names, "width": width, "cost": None}
 
 
 class Part:
     """What the requests of a level came to: its run, and the limits that it had, none if it is exempt. Those are counted that come from a time on, with how
-    many of them the log's server turned away."""
+    many of them the log's server turned away. A run is one of the independent level, or of another one that is used as that is."""
 
-    def __init__(self, level, nominal, requests, start, patience, until, since=0):
+    def __init__(self, level, nominal, requests, start, patience, until, since=0, runs=Run):
         self.level, self.nominal, self.since = level, nominal, since
         self.turned_away = sum(away for received, *_, away in requests if received - start >= since)
-        trace = [request_of(received - start, run_for, flow) for received, run_for, flow, _ in requests]
-        self.run = Run(config_of(level, nominal), trace, patience, "time", until)
+        trace = [request_of(it[0] - start, it[1], it[2], it.width) for it in requests]
+        self.run = runs(config_of(level, nominal), trace, patience, "time", until)
         self.limits = [] if level["exempt"] else [limit_of(nominal)]
         self.counted = [it for it, request in enumerate(trace) if request["arrivesAt"] >= since]
         self.lines = [it.line for it in requests]
@@ -271,11 +312,11 @@ def beside(read, scenario):
     requests = []
     for handed in read.requests:
         received, run_for, flow, away = handed
-        requests += [Handed(handed.line, (received, run_for, flow.beside, away))] * scenario.rate_of(flow.user, flow.beside.schema)
+        requests += [Handed(handed.line, (received, run_for, flow.beside, away), handed.width)] * scenario.rate_of(flow.user, flow.beside.schema)
     return read._replace(requests=requests)
 
 
-def parts_of(levels, schemas, read, seats, patience, lends, start=None, since=0):
+def parts_of(levels, schemas, read, seats, patience, lends, start=None, since=0, runs=Run):
     """What the levels come to by what was read of a log, each with its nominal limit all along, or with seats that are lent; and who lends them. The times
     are those since the first request of the log."""
     if start is None:
@@ -284,7 +325,7 @@ def parts_of(levels, schemas, read, seats, patience, lends, start=None, since=0)
     parts = []
     for level in levels:
         mine = [it for it in read.requests if of[it[2].schema] == level["name"]]
-        parts.append(Part(level, bounds_of(level, levels, seats).nominal, mine, start, patience, (0,) if lends else None, since))
+        parts.append(Part(level, bounds_of(level, levels, seats).nominal, mine, start, patience, (0,) if lends else None, since, runs))
     if not lends:
         return parts, None
     lender = Lender(levels, [it.run for it in parts], seats)
@@ -360,18 +401,20 @@ def flow_columns(figures):
     return [*map(str, counts(figures)), *times(figures)]
 
 
-def unsaid(parts):
-    """The lines of what an audit log does not say, where the log's server turned so many requests away."""
+def unsaid(parts, server=()):
+    """The lines of what the server's own log says, if there are some, and of what an audit log does not say, where the log's server turned so many requests
+    away."""
     away = sum(it.turned_away for it in parts)
-    said = ["how many seats a request takes (here one)", "how long a request runs where the server does other work (here as long as in the log)"]
+    said = [] if server else ["how many seats a request takes (here one)"]
+    said.append("how long a request runs where the server does other work (here as long as in the log)")
     if away:
         said.append(f"how long {away} requests that were turned away would run (here the median of those of their distinguisher)")
     said.append("which clients would try again (here those whose second requests are in the log)")
     said.append("requests that the audit policy leaves out")
-    return ["", *(f"not in the log: {it}" for it in said)]
+    return ["", *server, *(f"not in the log: {it}" for it in said)]
 
 
-def table(parts, flows):
+def table(parts, flows, server=()):
     end = end_of(parts)
     said = [LEVEL_NAMES, *(" ".join([name_text(it.level["name"]), *level_columns(it, end)]) for it in parts)]
     told = told_flows(parts)[:flows]
@@ -379,7 +422,7 @@ def table(parts, flows):
         said += ["", FLOW_NAMES]
     for part, figures, names in told:
         said.append(" ".join([name_text(part.level["name"]), *flow_columns(figures), *map(json_text, names)]))
-    return "".join(f"{it}\n" for it in [*said, *unsaid(parts)])
+    return "".join(f"{it}\n" for it in [*said, *unsaid(parts, server)])
 
 
 def as_json(figures):
@@ -460,7 +503,7 @@ def level_pairs(first, second):
     return [(ones.get(name), others.get(name)) for name in {**ones, **others}]
 
 
-def both_tables(first, second, flows):
+def both_tables(first, second, flows, server=()):
     said, ends = [LEVEL_NAMES], (end_of(first), end_of(second))
     for pair in level_pairs(first, second):
         name = name_text(next(it for it in pair if it).level["name"])
@@ -472,7 +515,7 @@ def both_tables(first, second, flows):
         levels = dict.fromkeys(name_text(it.part.level["name"]) for it in pair if it)
         columns = of_both(*(it and flow_columns(it.figures) for it in pair), 7)
         said.append(" ".join([">".join(levels), *columns, *map(json_text, next(it for it in pair if it).names)]))
-    return "".join(f"{it}\n" for it in [*said, *unsaid(first)])
+    return "".join(f"{it}\n" for it in [*said, *unsaid(first, server)])
 
 
 def both_objects(first, second, flows):

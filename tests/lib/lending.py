@@ -46,26 +46,26 @@ def limit_of(seats):
 
 
 def stays_of(run):
-    """From when until when each request is there that arrived and was not rejected, without an end as long as none is known."""
+    """From when until when each request is there that arrived and was not rejected, without an end as long as none is known, and for how many seats it asks."""
     coming = set(run.coming)
     for request, asked in enumerate(run.trace):
         decision = run.level.decided.get(request)
         if request in run.started:
-            yield asked["arrivesAt"], run.started[request] + asked["runsFor"]
+            yield asked["arrivesAt"], run.started[request] + asked["runsFor"], asked["width"]
         elif decision == "cancelled":
-            yield asked["arrivesAt"], run.waited_until[request]
+            yield asked["arrivesAt"], run.waited_until[request], asked["width"]
         elif decision is None and request not in coming:
-            yield asked["arrivesAt"], math.inf
+            yield asked["arrivesAt"], math.inf, asked["width"]
 
 
 def stretches_of(stays, begin, end):
     """For how many seats is asked from the one time to the other, and for how long."""
     changes = collections.Counter({begin: 0, end: 0})
-    for came, over in stays:
+    for came, over, seats in stays:
         came, over = max(came, begin), min(over, end)
         if came < over:
-            changes[came] += 1
-            changes[over] -= 1
+            changes[came] += seats
+            changes[over] -= seats
     times = sorted(changes)
     asked = itertools.accumulate(changes[it] for it in times)
     return [(seats, later - time) for seats, time, later in zip(asked, times, times[1:])]

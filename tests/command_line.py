@@ -80,7 +80,7 @@ for words, says in [
     (["picture", "--help"], PATIENCE + ["SVG", "apf simulate --help", "those whose requests waited longest in sum, of flows with equal sums", "The others share the last row", "With --from T or --to T it draws that stretch"]),
     (["trace", "--help"], ["<AUDITLOG>", "<SCHEMA>", "user.username", "requestReceivedTimestamp", "microseconds", "4096 bytes"]),
     (["objects", "--help"], ["<OBJECTS>", "--seats <N>", "1000000", "600", "kubectl", "v1beta2", "dangling"]),
-    (["match", "--help"], ["<OBJECTS>", "--user <NAME>", "--groups <NAMES>", "--path <PATH>", "--log <LOG>", "system:authenticated", "impersonatedUser"]),
+    (["match", "--help"], ["<OBJECTS>", "--user <NAME>", "--group <NAME>", "--path <PATH>", "--log <LOG>", "system:authenticated", "impersonatedUser"]),
     (["cluster", "--help"], ["<OBJECTS> <AUDITLOG> <PATIENCE>", "--set <KEY=VALUE>", "--against <OBJECTS>", "--warm-up <TIME>", "--picture <FILE>", "LEVEL.shares=60", "schema:NAME.rate=2x", "user:NAME.rate=2x", "server.seats=800", "a>b", "~"]),
     (["help", "cluster"], ["--flows <N>", "--no-lending", "--level <NAME>", "--trace", "--json"]),
     (["hands", "--help"], LEVEL + ["flow H hand Q1 Q2 .. of SCHEMA DISTINGUISHER", "shares Q with N flows", "covered by H", "covered by N more"]),

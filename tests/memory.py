@@ -61,7 +61,7 @@ few = files(
 )
 drawn = os.path.join(files.folder.name, "drawn.svg")
 changes = ["--set", "low.seats=1", "--set=schema:all.by=none", "--set", "schema:all.precedence=+1", "--set", "user:b.rate=9x", "--set", "schema:all.rate=2x"]
-who = ["--user", "alice", "--groups", "system:authenticated,dev", "--verb", "list"]
+who = ["--user", "alice", "--group", "system:authenticated", "--group=dev", "--verb", "list"]
 # an object on lines of its own, and an event, each in the place of a trace; and a trace in the place of objects
 printed = files("printed", '{\n  "kind": "FlowSchema",\n  "metadata": {"name": "a"}\n}\n')
 events = files("events", '{"kind":"Event","stage":"ResponseComplete","verb":"get"}\n')

@@ -268,7 +268,8 @@ def explained(cluster, asked):
 
 NAMES = ["a", "b", "shop", "kube-system", "*", "system:kube-scheduler"]
 USERS = ["alice", "bob", "system:kube-scheduler", "system:serviceaccount:shop:a", "system:serviceaccount:kube-system:b", "system:serviceaccount:shop:", "system:serviceaccount:sho:p:a", "*"]
-GROUPS = ["system:masters", "system:authenticated", "system:serviceaccounts", "system:nodes", "dev"]
+# the name of one has a comma, which parts no two groups
+GROUPS = ["system:masters", "system:authenticated", "system:serviceaccounts", "system:nodes", "dev", "dev,system:nodes"]
 VERBS = ["get", "list", "create", "watch"]
 APIS = ["", "apps", "batch"]
 RESOURCES = ["pods", "pods/log", "nodes", "leases"]
@@ -535,8 +536,7 @@ for turn in range(300):
     objects = files("objects.json", json.dumps(value))
     asked = drawn_request()
     words = ["match", objects, "--user=" + asked["user"], "--verb", asked["verb"]]
-    if asked["groups"]:
-        words += ["--groups", ",".join(asked["groups"])]
+    words += ["--group=" + it for it in asked["groups"]]
     if asked["path"] is not None:
         words += ["--path", asked["path"]]
     else:
@@ -576,7 +576,8 @@ NO_REQUEST = b"apf: a request needs --user, --verb and one of --resource and --p
 for words in ([], ["--user", "a"], ["--user", "a", "--verb", "get"], ["--verb", "get", "--path", "/"], ["--user", "a", "--verb", "get", "--path", "/", "--resource", "pods"],
               ["--user", "a", "--verb", "get", "--path", "/", "--namespace", "x"], ["--user", "a", "--verb", "get", "--path", "/", "--api-group", "x"]):
     tally.check(f"match {words}", run(program, ["match", objects, *words]), (2, b"", NO_REQUEST))
-tally.check("a log and a user", run(program, ["match", objects, "--log", "x", "--user", "a"]), (2, b"", b"apf: --log goes with no other option\n"))
+for option in ("user", "group", "verb", "resource", "api-group", "namespace", "path"):
+    tally.check(f"a log and --{option}", run(program, ["match", objects, "--log", "x", f"--{option}", "a"]), (2, b"", b"apf: --log goes with no other option\n"))
 for seats in ("0", "1000001", "x"):
     status, out, err = run(program, ["objects", objects, "--seats", seats])
     tally.check(f"--seats {seats}", (status, out, b"--seats" in err), (2, b"", True))

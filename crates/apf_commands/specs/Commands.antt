@@ -176,7 +176,7 @@ rules_of AuditLog =
     ∷ option_rule (codes "since") ∷ option_rule (codes "until") ∷ []
 rules_of Objects = text_rule (codes "OBJECTS") ∷ number_option_rule (codes "seats") seat_count ∷ []
 rules_of Match =
-    text_rule (codes "OBJECTS") ∷ option_rule (codes "user") ∷ option_rule (codes "groups") ∷ option_rule (codes "verb")
+    text_rule (codes "OBJECTS") ∷ option_rule (codes "user") ∷ repeated_rule (codes "group") ∷ option_rule (codes "verb")
     ∷ option_rule (codes "resource") ∷ option_rule (codes "api-group") ∷ option_rule (codes "namespace") ∷ option_rule (codes "path")
     ∷ option_rule (codes "log") ∷ []
 rules_of Cluster =

@@ -75,7 +75,7 @@ IsFlowCount rows n = IsNumberOr 32 12 rows (codes "flows") n × (n ≤ 1000000)
 -- the texts of the options that say a request
 pub record AreAsked (rows : List Row) (asked : Asked) : Type 0 where
   pub user : IsOption rows (codes "user") asked.user
-  pub groups : IsOption rows (codes "groups") asked.groups
+  pub groups : AreTexts rows (codes "group") asked.groups.items
   pub verb : IsOption rows (codes "verb") asked.verb
   pub resource : IsOption rows (codes "resource") asked.resource
   pub api_group : IsOption rows (codes "api-group") asked.api_group

@@ -344,11 +344,11 @@ fn with_match<'a>(alloc: Global, command: Command<'a>) -> Result<Command<'a>, Al
     command
         .arg(text(alloc, "OBJECTS", OBJECTS))?
         .arg(option(alloc, "user", "NAME", "Name of the user"))?
-        .arg(option(
+        .arg(repeated(
             alloc,
-            "groups",
-            "NAMES",
-            "Groups of the user, with a comma between two; none if left out",
+            "group",
+            "NAME",
+            "Group of the user, given again for each; none if left out",
         ))?
         .arg(option(alloc, "verb", "VERB", "Verb, as list or get"))?
         .arg(option(alloc, "resource", "NAME", "Resource, as pods or pods/log"))?

@@ -33,7 +33,7 @@ pub(crate) enum Kind {
     AuditLog,
     /// `OBJECTS [--seats N]`
     Objects,
-    /// `OBJECTS [--user U] [--groups G,..] [--verb V] [--resource R] [--api-group A] [--namespace N] [--path P] [--log LOG]`
+    /// `OBJECTS [--user U] [--group G].. [--verb V] [--resource R] [--api-group A] [--namespace N] [--path P] [--log LOG]`
     Match,
     /// `OBJECTS AUDITLOG PATIENCE [--seats N] [--flows N] [--json] [--no-lending] [--level NAME] [--trace] [--set KEY=VALUE].. [--against OBJECTS] [--warm-up TIME] [--picture FILE] [--http-log FILE]`
     Cluster,

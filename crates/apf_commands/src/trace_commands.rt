@@ -318,8 +318,8 @@ Status: 0 done, 1 a file's fault or output that can't be written, 2 a command li
         about: "Print which schema a request is of, and why no earlier one",
         help: "\
 OBJECTS is that of apf objects; apf objects --help says what it holds. The request is said by
---user and --verb, with --resource or --path. Its groups are those of --groups alone, and no other:
-the server gives system:authenticated to each user who is known, system:unauthenticated to
+--user and --verb, with --resource or --path. Each --group is one of its groups, and it has no
+other: the server gives system:authenticated to each user who is known, system:unauthenticated to
 system:anonymous, and system:serviceaccounts with system:serviceaccounts:NAMESPACE to service
 accounts. --api-group and --namespace go with --resource.
 
@@ -340,7 +340,7 @@ Its user and groups are those of impersonatedUser where it stands. It is a reque
 exactly if objectRef is there; else its path is requestURI before ?.
 
 Examples:
-  $ apf match examples/cluster/objects.json --user alice --groups system:authenticated \\
+  $ apf match examples/cluster/objects.json --user alice --group system:authenticated \\
   >   --verb list --resource pods --namespace shop | grep -o 'hash.*'
   hash f4de3bd42ccdf6b7 of \"alice\" hand 55 62 126 125 105 1
   $ apf match examples/cluster/objects.json --log examples/audit/audit.log | sed -n 1,2p

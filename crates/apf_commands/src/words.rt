@@ -140,11 +140,11 @@ pub enum Arguments<'a> {
 }
 
 /// A request, in the words of a command line, or an audit log of requests.
-#[derive(Clone, Copy, Debug, PartialEq, Eq)]
+#[derive(Debug, PartialEq, Eq, Drop)]
 pub struct Asked<'a> {
     pub user: Option<&'a str>,
-    /// The names of groups, with a comma between two.
-    pub groups: Option<&'a str>,
+    /// The names of the user's groups, in their order.
+    pub groups: Vec<&'a str>,
     pub verb: Option<&'a str>,
     pub resource: Option<&'a str>,
     pub api_group: Option<&'a str>,
@@ -431,30 +431,32 @@ fn objects_of<'a>(matches: &ArgMatches<'a>) -> Arguments<'a>
 }
 
 // The texts of the options that say a request.
-fn asked_of<'a>(matches: &ArgMatches<'a>) -> Asked<'a>
-    ensures { AreAsked (rows_of (found_of matches.now)) result }
+fn asked_of<'a>(alloc: Global, matches: &ArgMatches<'a>) -> Result<Asked<'a>, AllocError>
+    ensures { IfOk result (AreAsked (rows_of (found_of matches.now))) }
 {
-    Asked {
+    let groups = texts_of(alloc, matches, "group")?;
+    Ok(Asked {
         user: option_of(matches, "user"),
-        groups: option_of(matches, "groups"),
+        groups,
         verb: option_of(matches, "verb"),
         resource: option_of(matches, "resource"),
         api_group: option_of(matches, "api-group"),
         namespace: option_of(matches, "namespace"),
         path: option_of(matches, "path"),
         log: option_of(matches, "log"),
-    }
+    })
 }
 
-fn match_of<'a>(matches: &ArgMatches<'a>) -> Arguments<'a>
+fn match_of<'a>(alloc: Global, matches: &ArgMatches<'a>) -> Result<Arguments<'a>, AllocError>
     requires { HasArguments of_kind.Match (rows_of (found_of matches.now)) }
-    ensures kind { kind_of_arguments result ≡ of_kind.Match }
-    ensures read { AreArguments (rows_of (found_of matches.now)) result }
+    ensures kind { IfOk result (λ arguments. kind_of_arguments arguments ≡ of_kind.Match) }
+    ensures read { IfOk result (AreArguments (rows_of (found_of matches.now))) }
 {
-    Arguments::Match {
+    let asked = asked_of(alloc, matches)?;
+    Ok(Arguments::Match {
         objects: text_of(matches, "OBJECTS"),
-        asked: asked_of(matches),
-    }
+        asked,
+    })
 }
 
 fn cluster_of<'a>(alloc: Global, matches: &ArgMatches<'a>) -> Result<Arguments<'a>, AllocError>
@@ -505,7 +507,7 @@ fn arguments_of<'a>(
         Kind::Flows => flows_of(matches),
         Kind::AuditLog => audit_log_of(matches),
         Kind::Objects => objects_of(matches),
-        Kind::Match => match_of(matches),
+        Kind::Match => match_of(alloc, matches)?,
         Kind::Cluster => cluster_of(alloc, matches)?,
     })
 }
@@ -557,7 +559,8 @@ fn judged<'a>(alloc: Global, action: Action<'a>) -> Result<Action<'a>, Error>
 /// of which kind its arguments are. `DECK` and `HAND` are whole decimal numbers of 32 bits, `HASH` is one of 64 bits,
 /// `WORKERS` is 1 to 64, `--rounds` 1 to 1,000,000 and 1 if absent, `--slots` 1 to 10,000 and 10,000 if absent. `--name` is
 /// 1 to 253 bytes of `a-z`, `0-9`, `.` and `-`, and `level` if absent. The other arguments are texts, `PATIENCE`, `--charge`,
-/// `--from` and `--to` too. `--set` may be given as often as wanted.
+/// `--from` and `--to` too. `--group` and `--set` may be given as often as
+/// wanted.
 ///
 /// # Errors
 ///

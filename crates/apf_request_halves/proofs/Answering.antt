@@ -7,7 +7,7 @@ use Rattle.std.proofs.lemmas.List.Elements.{All-weaker}
 use Rattle.std.proofs.lemmas.List.Sorted.{sum_by-IsPermutation}
 use Rattle.std.proofs.lemmas.List.Sums.{sum_by-append}
 use Rattle.apf_request_halves.specs.Held.{Placed}
-use Rattle.apf_request_halves.specs.Reading.{AreAnswered, Asked, HadToGo, IsAnswered, IsMissed, answers_of, is_behind, limit_after, limit_by, limit_from, requests_from, takes_place}
+use Rattle.apf_request_halves.specs.Reading.{AreAnswered, Asked, HadToGo, IsAnswered, IsMissed, answers_of, is_behind, limit_after, limit_by, limit_from, most_lines, requests_from, takes_place}
 
 -- ---- lines that had to go
 
@@ -77,6 +77,15 @@ answered_push lines is_ended gone before (b ∷ asked) a are is = (
 pub answers_push : (asked : List Asked) (a : Asked) → answers_of (asked ++ a ∷ []) ≡ answers_of asked ++ option_to_list a.found
 answers_push asked a =
     flat_map-append (λ (x : Asked). option_to_list x.found) asked (a ∷ []) ∙ ap (λ l. answers_of asked ++ l) (append-nil (option_to_list a.found))
+
+-- no more lines than can be counted are read
+pub limit_few : (limit : ℕ) (asked : List Asked) → limit ≤ most_lines → limit_from limit asked ≤ most_lines
+limit_few limit [] few = few
+limit_few limit (a ∷ asked) few = limit_few (limit_after limit a.found) asked (after a.found)
+  where
+    after : (found : Option Placed) → limit_after limit found ≤ most_lines
+    after None = omega arith
+    after (Some p) = omega (arith, few)
 
 pub limit_push : (limit : ℕ) (asked : List Asked) (a : Asked) → limit_from limit (asked ++ a ∷ []) ≡ limit_after (limit_from limit asked) a.found
 limit_push limit [] a = refl

@@ -12,7 +12,7 @@ use Rattle.apf_lines.specs.Lines.{AreLines, AreUncut, CutsLine, HasNoLf, LinesVi
 use Rattle.apf_request_lines.specs.Lines.{line_read}
 use Rattle.apf_request_halves.specs.Held.{Placed}
 use Rattle.apf_request_halves.specs.Reading.{AreAnswered, AreFalling, Asked, HadToGo, HalvesView, HasRead, IsMissed, IsWithout, answers_of, given, limit_after, limit_by, max_held, max_line, reach, request_at, requests_from}
-use Rattle.apf_request_halves.proofs.Answering.{answered_push, answered_still, answers_push, count_front, count_held, limit_push, went_still}
+use Rattle.apf_request_halves.proofs.Answering.{answered_push, answered_still, answers_push, count_front, count_held, limit_few, limit_push, went_still}
 use Rattle.apf_request_halves.proofs.Falling.{falling_up}
 use Rattle.apf_request_halves.proofs.Judging.{not_both}
 
@@ -35,6 +35,7 @@ nothing_read v lines held number dropped limit not_ended left = record {
   had_to = All-nil (HadToGo []);
   each = tt;
   limit = limit;
+  within = omega (arith, number);
   end = λ is. absurd (not_both v.is_ended not_ended is);
 }
 
@@ -90,8 +91,8 @@ pub record Moves (v : HalvesView) (came out new more : List Placed) (is_gone : B
 -- a line was cut off, and its request, if it has one, was answered or is held
 pub line_went : (bytes : List ℕ) (asked : List Asked) (left : Option (List ℕ)) (v : HalvesView) (h : HasRead bytes asked left v) → v.is_ended ≡ false → (line : List ℕ) (ls : LinesView) → CutsLine h.rest line ls
     → ls.longest ≡ max_line → (came out new more : List Placed) (is_gone : Bool) → request_at (v.number + 1) line ≡ came → Moves v came out new more is_gone → (told : List Asked) → answers_of told ≡ answers_of asked ++ out
-    → AreAnswered (h.lines ++ line ∷ []) v.is_ended (more ++ h.gone) [] told → HasRead bytes told left (after_line v ls new is_gone (limit_by told))
-line_went bytes asked left v h not_ended line ls cuts longest came out new more is_gone is moves told same each =
+    → AreAnswered (h.lines ++ line ∷ []) v.is_ended (more ++ h.gone) [] told → v.number < limit_by told → HasRead bytes told left (after_line v ls new is_gone (limit_by told))
+line_went bytes asked left v h not_ended line ls cuts longest came out new more is_gone is moves told same each goes_on =
     let place : 1 + length h.lines ≡ v.number + 1 = omega (arith, h.number) in
     let requests : requests_from 1 (h.lines ++ line ∷ []) ≡ requests_from 1 h.lines ++ came =
     requests_push 1 h.lines line ∙ ap (λ rs. requests_from 1 h.lines ++ rs) (ap (λ n. request_at n line) place ∙ is) in
@@ -119,6 +120,7 @@ line_went bytes asked left v h not_ended line ls cuts longest came out new more 
       had_to = subst (λ rs. All (HadToGo rs) (more ++ h.gone)) (sym requests) had_to;
       each = each;
       limit = refl;
+      within = omega (arith, goes_on);
       end = λ is. absurd (not_both v.is_ended not_ended is);
     }
 
@@ -129,22 +131,23 @@ each_still bytes asked left v h not_ended line more =
     answered_still h.lines (line ∷ []) v.is_ended h.gone more [] asked (subst (λ e. AreAnswered h.lines e h.gone [] asked) not_ended h.each)
 
 -- nothing of it was answered
-pub line_stays : (bytes : List ℕ) (asked : List Asked) (left : Option (List ℕ)) (v : HalvesView) (h : HasRead bytes asked left v) → v.is_ended ≡ false → (line : List ℕ) (ls : LinesView) → CutsLine h.rest line ls
+pub line_stays : (bytes : List ℕ) (asked : List Asked) (left : Option (List ℕ)) (v : HalvesView) (h : HasRead bytes asked left v) → v.is_ended ≡ false → v.number < v.limit → (line : List ℕ) (ls : LinesView) → CutsLine h.rest line ls
     → ls.longest ≡ max_line → (came new more : List Placed) (is_gone : Bool) → request_at (v.number + 1) line ≡ came → Moves v came [] new more is_gone → HasRead bytes asked left (after_line v ls new is_gone v.limit)
-line_stays bytes asked left v h not_ended line ls cuts longest came new more is_gone is moves =
+line_stays bytes asked left v h not_ended goes_on line ls cuts longest came new more is_gone is moves =
     subst (λ limit. HasRead bytes asked left (after_line v ls new is_gone limit)) (sym h.limit)
-    (line_went bytes asked left v h not_ended line ls cuts longest came [] new more is_gone is moves asked (sym (append-nil (answers_of asked))) (each_still bytes asked left v h not_ended line more))
+    (line_went bytes asked left v h not_ended line ls cuts longest came [] new more is_gone is moves asked (sym (append-nil (answers_of asked))) (each_still bytes asked left v h not_ended line more) (omega (arith, goes_on, h.limit)))
 
 -- it was answered to who asked for its id
-pub line_answered : (bytes : List ℕ) (asked : List Asked) (left : Option (List ℕ)) (v : HalvesView) (h : HasRead bytes asked left v) → v.is_ended ≡ false → (line : List ℕ) (ls : LinesView) → CutsLine h.rest line ls
+pub line_answered : (bytes : List ℕ) (asked : List Asked) (left : Option (List ℕ)) (v : HalvesView) (h : HasRead bytes asked left v) → v.is_ended ≡ false → v.number < v.limit → (line : List ℕ) (ls : LinesView) → CutsLine h.rest line ls
     → ls.longest ≡ max_line → (came new more : List Placed) (is_gone : Bool) → request_at (v.number + 1) line ≡ came → (id : List ℕ) (p : Placed) → Moves v came (p ∷ []) new more is_gone → p.request.audit_id ≡ id
     → HasRead bytes (asked ++ record { id = id; found = Some p } ∷ []) left (after_line v ls new is_gone (limit_after v.limit (Some p)))
-line_answered bytes asked left v h not_ended line ls cuts longest came new more is_gone is id p moves same =
+line_answered bytes asked left v h not_ended goes_on line ls cuts longest came new more is_gone is id p moves same =
     let a : Asked = record { id = id; found = Some p } in
+    let limit : limit_by (asked ++ a ∷ []) ≡ limit_after v.limit (Some p) = limit_push reach asked a ∙ ap (λ l. limit_after l (Some p)) (sym h.limit) in
     let each =
     answered_push (h.lines ++ line ∷ []) v.is_ended (more ++ h.gone) [] asked a (each_still bytes asked left v h not_ended line more) same in
-    subst (λ limit. HasRead bytes (asked ++ a ∷ []) left (after_line v ls new is_gone limit)) (limit_push reach asked a ∙ ap (λ l. limit_after l (Some p)) (sym h.limit))
-    (line_went bytes asked left v h not_ended line ls cuts longest came (p ∷ []) new more is_gone is moves (asked ++ a ∷ []) (answers_push asked a) each)
+    subst (λ limit. HasRead bytes (asked ++ a ∷ []) left (after_line v ls new is_gone limit)) limit
+    (line_went bytes asked left v h not_ended line ls cuts longest came (p ∷ []) new more is_gone is moves (asked ++ a ∷ []) (answers_push asked a) each (omega (arith, goes_on, limit)))
 
 -- a line that is short has what was read of it
 pub short_line : (number : ℕ) (line : List ℕ) → length line ≤ max_line → request_at number line ≡ given number (line_read line)
@@ -185,6 +188,7 @@ held_went bytes asked left v h id p new out falls same_id =
       had_to = h.had_to;
       each = answered_push h.lines v.is_ended h.gone [] asked a h.each same_id;
       limit = ap (λ l. limit_after l (Some p)) h.limit ∙ sym (limit_push reach asked a);
+      within = omega (arith, h.within);
       end = h.end;
     }
 
@@ -220,6 +224,7 @@ none_went bytes asked left v h id without over =
       had_to = h.had_to;
       each = answered_push h.lines v.is_ended h.gone [] asked a h.each missed;
       limit = ap (λ l. limit_after l None) h.limit ∙ sym (limit_push reach asked a);
+      within = omega (arith, h.within, h.limit, limit_few reach asked (omega arith));
       end = h.end;
     }
   where
@@ -249,6 +254,7 @@ read_more bytes asked was left v h not_ended ls more gains longest = record {
   had_to = h.had_to;
   each = h.each;
   limit = h.limit;
+  within = h.within;
   end = λ is. absurd (not_both v.is_ended not_ended is);
 }
 
@@ -281,14 +287,15 @@ ended bytes asked left v h not_ended end = record {
       subst (λ ls. AreAnswered ls true h.gone [] asked) (append-nil h.lines)
       (answered_still h.lines [] true h.gone [] [] asked (subst (λ e. AreAnswered h.lines e h.gone [] asked) not_ended h.each));
   limit = h.limit;
+  within = h.within;
   end = λ is. end;
 }
 
 -- a line without a request was cut off
-pub passed : (bytes : List ℕ) (asked : List Asked) (left : Option (List ℕ)) (v : HalvesView) (h : HasRead bytes asked left v) → v.is_ended ≡ false → (line : List ℕ) (ls : LinesView) → CutsLine h.rest line ls
+pub passed : (bytes : List ℕ) (asked : List Asked) (left : Option (List ℕ)) (v : HalvesView) (h : HasRead bytes asked left v) → v.is_ended ≡ false → v.number < v.limit → (line : List ℕ) (ls : LinesView) → CutsLine h.rest line ls
     → ls.longest ≡ max_line → request_at (v.number + 1) line ≡ []
     → HasRead bytes asked left (record { lines = ls; held = v.held; number = v.number + 1; dropped = v.dropped; limit = v.limit; is_ended = v.is_ended })
-passed bytes asked left v h not_ended line ls cuts longest none =
+passed bytes asked left v h not_ended goes_on line ls cuts longest none =
     let dropped : v.dropped + 0 ≡ v.dropped = omega arith in
     let moves : Moves v [] [] v.held [] false = record {
       all = subst (IsPermutation v.held) (sym (append-nil v.held)) (IsPermutation-refl v.held);
@@ -298,4 +305,4 @@ passed bytes asked left v h not_ended line ls cuts longest none =
       had_to = λ falls. All-nil (HadToGo v.held);
     } in
     subst (λ d. HasRead bytes asked left (record { lines = ls; held = v.held; number = v.number + 1; dropped = d; limit = v.limit; is_ended = v.is_ended })) dropped
-    (line_stays bytes asked left v h not_ended line ls cuts longest [] v.held [] false none moves)
+    (line_stays bytes asked left v h not_ended goes_on line ls cuts longest [] v.held [] false none moves)

@@ -1,5 +1,5 @@
 -- One turn after the other: lines that are cut off, and bytes that are read.
-use Rattle.std.proofs.Common.{◌≡◌, ◌≢◌, ◌≤◌, ◌+◌, ◌⊎◌, ℕ, List, [], ◌∷◌, ◌++◌, Bool, true, false, Option, Some, None, Result, Ok, Err, length, refl, sym, ap, ◌∙◌, subst, inl, inr, arith, append_assoc, append-nil}
+use Rattle.std.proofs.Common.{◌≡◌, ◌≢◌, ◌≤◌, ◌<◌, ◌+◌, ◌⊎◌, ℕ, List, [], ◌∷◌, ◌++◌, Bool, true, false, Option, Some, None, Result, Ok, Err, length, refl, sym, ap, ◌∙◌, subst, inl, inr, arith, append_assoc, append-nil}
 use Rattle.std.specs.Prelude.{All, IsPermutation, ◌||◌, nat_le}
 use Rattle.std.specs.Io.KnownBytes.{Consumes}
 use Rattle.std.proofs.KnownBytes.{Consumes-nil, Consumes-trans}
@@ -35,7 +35,7 @@ without_moved id came held new gone moves came_others others =
     All-first (λ (p : Placed). p.request.audit_id ≢ id) new gone
     (All-permutation (λ (p : Placed). p.request.audit_id ≢ id) (came ++ held) (new ++ gone) moves (All-append (λ (p : Placed). p.request.audit_id ≢ id) came held came_others others))
 
-module _ (bytes : List ℕ) (asked : List Asked) (left : Option (List ℕ)) (v : HalvesView) (h : HasRead bytes asked left v) (not_ended : v.is_ended ≡ false) (ls : LinesView) where
+module _ (bytes : List ℕ) (asked : List Asked) (left : Option (List ℕ)) (v : HalvesView) (h : HasRead bytes asked left v) (not_ended : v.is_ended ≡ false) (goes_on : v.number < v.limit) (ls : LinesView) where
   -- a line that is not too long
   module _ (off : CutsOff v.lines cuts.Line ls) where
     parts : CutsLine h.rest ls.line ls
@@ -68,7 +68,7 @@ module _ (bytes : List ℕ) (asked : List Asked) (left : Option (List ℕ)) (v :
     pub line_kept : (id : List ℕ) (w : HalvesView) → TakesLine id (at_lines v ls) None w → IsWithout id v.held → HasRead bytes asked left w × IsWithout id w.held
     line_kept id w took without = (
       subst (HasRead bytes asked left) (left_view id None w took v.limit ∙ ap (at_limit w) (sym took.limit))
-          (line_stays bytes asked left v h not_ended ls.line ls parts longest (given (v.number + 1) (line_read ls.line)) w.held took.judges.gone took.is_gone has_given (moved id None w took)),
+          (line_stays bytes asked left v h not_ended goes_on ls.line ls parts longest (given (v.number + 1) (line_read ls.line)) w.held took.judges.gone took.is_gone has_given (moved id None w took)),
       without_moved id (given (v.number + 1) (line_read ls.line)) v.held w.held took.judges.gone took.judges.all took.judges.other_id without,
     )
 
@@ -80,7 +80,7 @@ module _ (bytes : List ℕ) (asked : List Asked) (left : Option (List ℕ)) (v :
         let limit : limit_after v.limit (Some p) ≡ limit_after w.limit (Some (record { number = w.number; request = request line })) = rw (took.limit, took.number) refl in (
           v.number + 1,
           subst (HasRead bytes (asked ++ asked_and id (v.number + 1) line ∷ []) left) (left_view id (Some line) w took (limit_after v.limit (Some p)) ∙ ap (at_limit w) limit)
-              (line_answered bytes asked left v h not_ended ls.line ls parts longest (given (v.number + 1) (line_read ls.line)) w.held took.judges.gone took.is_gone has_given id p (moved id (Some line) w took) took.judges.same_id),
+              (line_answered bytes asked left v h not_ended goes_on ls.line ls parts longest (given (v.number + 1) (line_read ls.line)) w.held took.judges.gone took.is_gone has_given id p (moved id (Some line) w took) took.judges.same_id),
         )
 
     -- it has a fault
@@ -88,7 +88,7 @@ module _ (bytes : List ℕ) (asked : List Asked) (left : Option (List ℕ)) (v :
     line_refused id NoMemory w took = tt
     line_refused id (Line number fault) w took =
         let none : request_at (v.number + 1) ls.line ≡ [] = has_given ∙ ap (given (v.number + 1)) took.1 in (
-          subst (HasRead bytes asked left) (sym took.2) (passed bytes asked left v h not_ended ls.line ls parts longest none),
+          subst (HasRead bytes asked left) (sym took.2) (passed bytes asked left v h not_ended goes_on ls.line ls parts longest none),
           record {
             front = h.lines;
             line = ls.line;
@@ -107,7 +107,7 @@ module _ (bytes : List ℕ) (asked : List Asked) (left : Option (List ℕ)) (v :
       let long = off.of_each h.rest h.uncut in
       let most : ls.longest ≡ max_line = off.longest ∙ h.longest in
       let over = long.long in
-      passed bytes asked left v h not_ended long.line ls long.cuts most (long_line (v.number + 1) long.line (omega (arith, over, most)))
+      passed bytes asked left v h not_ended goes_on long.line ls long.cuts most (long_line (v.number + 1) long.line (omega (arith, over, most)))
 
 -- ---- one turn after the other
 
@@ -120,6 +120,11 @@ why_over false limit number is = inl (grind (arith, nat_tests))
 pub not_over : (is_ended : Bool) (limit number : ℕ) → (is_ended || nat_le limit number) ≡ false → is_ended ≡ false
 not_over true limit number is = absurd cc
 not_over false limit number is = refl
+
+-- and the limit is not reached
+pub not_far : (is_ended : Bool) (limit number : ℕ) → (is_ended || nat_le limit number) ≡ false → number < limit
+not_far true limit number is = absurd cc
+not_far false limit number is = grind (arith, nat_tests)
 
 -- nothing more is read
 pub no_more : (id bytes : List ℕ) (asked : List Asked) (was : Option (List ℕ)) (result : Result Turn HalvesFault) (v : HalvesView) → Goes id bytes asked was result v

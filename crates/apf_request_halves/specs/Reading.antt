@@ -119,7 +119,8 @@ abbrev pub AreFalling : ℕ → List Placed → Type 0
 AreFalling top [] = Unit {0}
 AreFalling top (p ∷ held) = (p.number < top) × AreFalling p.number held
 
--- The input gave these bytes, and has this left, and these ids were asked for. Each request of the lines was answered, is held, or had to go, and no two of these.
+-- The input gave these bytes, and has this left, and these ids were asked for. No more lines were read than the limit says. Each request of the lines was answered, is held,
+-- or had to go, and no two of these.
 pub record HasRead (bytes : List ℕ) (asked : List Asked) (left : Option (List ℕ)) (v : HalvesView) : Type 0 where
   pub lines : List (List ℕ)
   pub rest : List ℕ
@@ -135,6 +136,7 @@ pub record HasRead (bytes : List ℕ) (asked : List Asked) (left : Option (List 
   pub had_to : All (HadToGo (requests_from 1 lines)) gone
   pub each : AreAnswered lines v.is_ended gone [] asked
   pub limit : v.limit ≡ limit_by asked
+  pub within : v.number ≤ v.limit
   pub end : v.is_ended ≡ true → IsAtEnd left
 
 -- none of these lines has this id

@@ -1,18 +1,17 @@
 //! Which events are taken, and what is taken of one.
 
-ghost use Rattle.std.specs.Prelude.{◌≡◌, ◌≢◌, ◌≤◌, IfOk, IfErr, IfSome, Some, None, Ok, Err, option_map, codes, length, false, string_bytes};
+ghost use Rattle.std.specs.Prelude.{◌≡◌, ◌≢◌, ◌≤◌, IfOk, IfErr, IfSome, Some, None, Ok, Err, option_map, option_and_then, codes, length, false, string_bytes};
 ghost use Rattle.serde_json.specs.Find.{get};
-ghost use Rattle.serde_json.specs.View.{view};
 ghost use Rattle.apf_times.specs.Limits.{max_run};
+ghost use Rattle.apf_values.specs.Views.{data_of};
 ghost use Rattle.apf_audit.specs.AuditEvent as spec;
 
 use crate::choice::{By, Choice, within};
 use crate::fault::AuditFault;
 use crate::times::{read_instant, run_of, wait_of};
-use apf_files::text_at;
 use apf_objects::{Cluster, Distinguisher};
 use apf_routing::schema_of_event;
-use serde_json::Value;
+use apf_values::Node;
 use std::alloc::Global;
 
 /// The most bytes of the name of a user or a namespace: such a name fits a line of a trace, whatever has to be escaped.
@@ -76,10 +75,17 @@ pub enum Outcome {
 
 // The text at a key of the object at another, if there is one.
 #[tactic(auto, unfolding(crate::specs::AuditEvent::text_within))]
-fn text_within<'a>(value: &'a Value, outer: &str, inner: &str) -> Option<&'a str>
-    ensures { option_map (λ text. text.now) result ≡ spec.text_within outer.now inner.now (view value.now) }
+fn text_within<'a>(value: &Node<'a>, outer: &str, inner: &str) -> Option<&'a str>
+    ensures { option_map (λ text. text.now) result ≡ spec.text_within outer.now inner.now (data_of value.now) }
 {
-    text_at(value.get(outer)?, inner)
+    value.get(outer)?.text_at(inner)
+}
+
+// What stands at a key of the object at another, if there is one.
+fn found_within<'a>(value: &Node<'a>, outer: &str, inner: &str) -> Option<Node<'a>>
+    ensures { option_map (λ found. data_of found) result ≡ option_and_then (get inner.now) (get outer.now (data_of value.now)) }
+{
+    value.get(outer)?.get(inner)
 }
 
 // A request for such a subresource is a connection that lasts.
@@ -96,11 +102,11 @@ fn is_lasting(subresource: &str) -> bool
 
 // Whether an event is taken, or none where the value is no event.
 #[tactic(auto, unfolding(crate::specs::AuditEvent::is_taken))]
-fn is_taken(value: &Value) -> Option<bool>
-    ensures { result ≡ spec.is_taken (view value.now) }
+fn is_taken(value: &Node<'_>) -> Option<bool>
+    ensures { result ≡ spec.is_taken (data_of value.now) }
 {
-    let stage = text_at(value, "stage")?;
-    let verb = text_at(value, "verb")?;
+    let stage = value.text_at("stage")?;
+    let verb = value.text_at("verb")?;
     let lasts = match text_within(value, "objectRef", "subresource") {
         Some(subresource) => is_lasting(subresource),
         None => false,
@@ -109,11 +115,11 @@ fn is_taken(value: &Value) -> Option<bool>
 }
 
 // The name of whose request it is: of the user who is impersonated, if the event has one.
-fn name_of(value: &Value) -> Option<&str>
-    ensures { option_map (λ text. text.now) result ≡ spec.name_by (view value.now) (get (codes "impersonatedUser") (view value.now)) }
+fn name_of<'a>(value: &Node<'a>) -> Option<&'a str>
+    ensures { option_map (λ text. text.now) result ≡ spec.name_by (data_of value.now) (get (codes "impersonatedUser") (data_of value.now)) }
 {
     match value.get("impersonatedUser") {
-        Some(impersonated) => text_at(impersonated, "username"),
+        Some(impersonated) => impersonated.text_at("username"),
         None => text_within(value, "user", "username"),
     }
 }
@@ -131,35 +137,35 @@ fn short(most: usize, text: &str) -> Option<&str>
 
 // The id by which the server names the request, if it is one that is kept.
 #[tactic(auto, unfolding(crate::specs::AuditEvent::id_of))]
-fn id_of(value: &Value) -> Option<&str>
-    ensures value { option_map (λ text. text.now) result ≡ spec.id_of (view value.now) }
+fn id_of<'a>(value: &Node<'a>) -> Option<&'a str>
+    ensures value { option_map (λ text. text.now) result ≡ spec.id_of (data_of value.now) }
     ensures short { IfSome result (λ id. length id.now ≤ spec.max_id) }
 {
-    short(MAX_ID, text_at(value, "auditID")?)
+    short(MAX_ID, value.text_at("auditID")?)
 }
 
 // The value that stands where the event has the name of its user, if there is one.
-fn name_found(value: &Value) -> Option<&Value>
-    ensures { option_map (λ found. view found.now) result ≡ spec.name_found (view value.now) (get (codes "impersonatedUser") (view value.now)) }
+fn name_found<'a>(value: &Node<'a>) -> Option<Node<'a>>
+    ensures { option_map (λ found. data_of found) result ≡ spec.name_found (data_of value.now) (get (codes "impersonatedUser") (data_of value.now)) }
 {
     match value.get("impersonatedUser") {
         Some(impersonated) => impersonated.get("username"),
-        None => value.get("user").and_then(|user| user.get("username")),
+        None => found_within(value, "user", "username"),
     }
 }
 
 // The event has no name of a user.
 #[tactic(auto, unfolding(crate::specs::AuditEvent::is_unnamed))]
-fn is_unnamed(value: &Value) -> bool
-    ensures { result ≡ spec.is_unnamed (view value.now) }
+fn is_unnamed(value: &Node<'_>) -> bool
+    ensures { result ≡ spec.is_unnamed (data_of value.now) }
 {
     name_found(value).is_none()
 }
 
 // The name of the user, where a trace can have it.
 #[tactic(auto, unfolding(crate::specs::AuditEvent::user_of))]
-fn user_of(value: &Value) -> Option<&str>
-    ensures value { option_map (λ text. text.now) result ≡ spec.user_of (view value.now) }
+fn user_of<'a>(value: &Node<'a>) -> Option<&'a str>
+    ensures value { option_map (λ text. text.now) result ≡ spec.user_of (data_of value.now) }
     ensures short { IfSome result (λ user. length user.now ≤ spec.max_name) }
 {
     short(MAX_NAME, name_of(value)?)
@@ -167,14 +173,11 @@ fn user_of(value: &Value) -> Option<&str>
 
 // The namespace, where a trace can have it. Without one it is the empty text.
 #[tactic(auto, unfolding(crate::specs::AuditEvent::namespace_of))]
-fn namespace_of(value: &Value) -> Option<&str>
-    ensures value { option_map (λ text. text.now) result ≡ spec.namespace_of (view value.now) }
+fn namespace_of<'a>(value: &Node<'a>) -> Option<&'a str>
+    ensures value { option_map (λ text. text.now) result ≡ spec.namespace_of (data_of value.now) }
     ensures short { IfSome result (λ name. length name.now ≤ spec.max_name) }
 {
-    match value
-        .get("objectRef")
-        .and_then(|object| object.get("namespace"))
-    {
+    match found_within(value, "objectRef", "namespace") {
         Some(namespace) => short(MAX_NAME, namespace.as_str()?),
         None => Some(""),
     }
@@ -185,9 +188,9 @@ fn place_in(
     alloc: Global,
     cluster: &Cluster,
     user: &str,
-    value: &Value,
+    value: &Node<'_>,
 ) -> Result<Option<usize>, AuditFault>
-    ensures ok { IfOk result (λ place. place ≡ spec.place_among cluster.now.schemas.items user.now (view value.now)) }
+    ensures ok { IfOk result (λ place. place ≡ spec.place_among cluster.now.schemas.items user.now (data_of value.now)) }
     ensures err { IfErr result (λ fault. fault ≡ AuditFault.NoMemory) }
 {
     match schema_of_event(alloc, cluster.schemas.as_slice(), user, value) {
@@ -201,9 +204,9 @@ fn schema_of(
     alloc: Global,
     by: By<'_>,
     user: &str,
-    value: &Value,
+    value: &Node<'_>,
 ) -> Result<Option<usize>, AuditFault>
-    ensures ok { IfOk result (λ place. place ≡ spec.schema_of by.entry user.now (view value.now)) }
+    ensures ok { IfOk result (λ place. place ≡ spec.schema_of by.entry user.now (data_of value.now)) }
     ensures err { IfErr result (λ fault. fault ≡ AuditFault.NoMemory) }
 {
     match by {
@@ -213,9 +216,9 @@ fn schema_of(
 }
 
 // The name of the flow of an event of this user.
-fn flow_of<'a>(by: Distinguisher, user: &'a str, value: &'a Value) -> Option<&'a str>
+fn flow_of<'a>(by: Distinguisher, user: &'a str, value: &Node<'a>) -> Option<&'a str>
     requires { length user.now ≤ spec.max_name }
-    ensures value { option_map (λ text. text.now) result ≡ spec.flow_of by user.entry.now (view value.now) }
+    ensures value { option_map (λ text. text.now) result ≡ spec.flow_of by user.entry.now (data_of value.now) }
     ensures short { IfSome result (λ name. length name.now ≤ spec.max_name) }
 {
     match by {
@@ -252,14 +255,14 @@ fn said_by(
     alloc: Global,
     cluster: &Cluster,
     user: &str,
-    value: &Value,
+    value: &Node<'_>,
     line: u64,
 ) -> Result<Beside, AuditFault>
     requires { length user.now ≤ spec.max_name }
-    ensures ok { IfOk result (λ beside. spec.said_by cluster.now.schemas.items user.now (view value.now) ≡ Some (spec.beside_said beside)) }
+    ensures ok { IfOk result (λ beside. spec.said_by cluster.now.schemas.items user.now (data_of value.now) ≡ Some (spec.beside_said beside)) }
     ensures ranges { IfOk result spec.IsBesideInRange }
     ensures err { IfErr result (λ fault. fault ≢ AuditFault.NoMemory
-        → (fault ≡ AuditFault.BadNamespace line) × (spec.said_by cluster.now.schemas.items user.now (view value.now) ≡ None)) }
+        → (fault ≡ AuditFault.BadNamespace line) × (spec.said_by cluster.now.schemas.items user.now (data_of value.now) ≡ None)) }
 {
     let schema = place_in(alloc, cluster, user, value)?;
     let by = within(cluster, schema);
@@ -276,14 +279,14 @@ fn beside_of(
     alloc: Global,
     by: By<'_>,
     user: &str,
-    value: &Value,
+    value: &Node<'_>,
     line: u64,
 ) -> Result<Option<Beside>, AuditFault>
     requires { length user.now ≤ spec.max_name }
-    ensures ok { IfOk result (λ beside. spec.beside_of by.entry user.now (view value.now) ≡ Some (option_map spec.beside_said beside)) }
+    ensures ok { IfOk result (λ beside. spec.beside_of by.entry user.now (data_of value.now) ≡ Some (option_map spec.beside_said beside)) }
     ensures ranges { IfOk result (λ beside. IfSome beside spec.IsBesideInRange) }
     ensures err { IfErr result (λ fault. fault ≢ AuditFault.NoMemory
-        → (fault ≡ AuditFault.BadNamespace line) × (spec.beside_of by.entry user.now (view value.now) ≡ None)) }
+        → (fault ≡ AuditFault.BadNamespace line) × (spec.beside_of by.entry user.now (data_of value.now) ≡ None)) }
 {
     match by {
         By::User | By::Namespace | By::Schema(_) => Ok(None),
@@ -293,13 +296,10 @@ fn beside_of(
 
 // Whether the request was turned away: the server answered with status 429.
 #[tactic(auto, unfolding(crate::specs::AuditEvent::was_turned_away))]
-fn was_turned_away(value: &Value) -> bool
-    ensures { result ≡ spec.was_turned_away (view value.now) }
+fn was_turned_away(value: &Node<'_>) -> bool
+    ensures { result ≡ spec.was_turned_away (data_of value.now) }
 {
-    match value
-        .get("responseStatus")
-        .and_then(|status| status.get("code"))
-    {
+    match found_within(value, "responseStatus", "code") {
         Some(code) => match code.as_u64() {
             Some(code) => code == 429,
             None => false,
@@ -310,18 +310,18 @@ fn was_turned_away(value: &Value) -> bool
 
 // The instant at a key.
 #[tactic(auto, unfolding(crate::specs::AuditEvent::instant_at))]
-fn instant_at(value: &Value, key: &str) -> Option<u64>
-    ensures { result ≡ spec.instant_at key.now (view value.now) }
+fn instant_at(value: &Node<'_>, key: &str) -> Option<u64>
+    ensures { result ≡ spec.instant_at key.now (data_of value.now) }
 {
-    read_instant(text_at(value, key)?)
+    read_instant(value.text_at(key)?)
 }
 
 // The wait in the queue that the annotation says, and 0 where there is no such annotation.
 #[tactic(auto, unfolding(crate::specs::AuditEvent::wait_at))]
-fn wait_at(value: &Value) -> Option<u64>
-    ensures { result ≡ spec.wait_at (view value.now) }
+fn wait_at(value: &Node<'_>) -> Option<u64>
+    ensures { result ≡ spec.wait_at (data_of value.now) }
 {
-    match value.get("annotations").and_then(|all| all.get(QUEUE_WAIT)) {
+    match found_within(value, "annotations", QUEUE_WAIT) {
         Some(wait) => wait_of(wait.as_str()?),
         None => Some(0),
     }
@@ -329,10 +329,10 @@ fn wait_at(value: &Value) -> Option<u64>
 
 // How long the request of an event ran that was received at this time, and 0 if it was turned away.
 #[tactic(auto, unfolding(crate::specs::AuditEvent::run_at))]
-fn run_at(value: &Value, line: u64, received: u64) -> Result<u64, AuditFault>
-    ensures ok { IfOk result (λ run. spec.run_at line received (view value.now) ≡ Ok run) }
+fn run_at(value: &Node<'_>, line: u64, received: u64) -> Result<u64, AuditFault>
+    ensures ok { IfOk result (λ run. spec.run_at line received (data_of value.now) ≡ Ok run) }
     ensures within { IfOk result (λ run. run ≤ max_run) }
-    ensures err { IfErr result (λ fault. spec.run_at line received (view value.now) ≡ Err fault) }
+    ensures err { IfErr result (λ fault. spec.run_at line received (data_of value.now) ≡ Err fault) }
 {
     if was_turned_away(value) {
         return Ok(0);
@@ -346,7 +346,7 @@ fn run_at(value: &Value, line: u64, received: u64) -> Result<u64, AuditFault>
 #[tactic(auto, unfolding(crate::specs::AuditEvent::ran_at))]
 fn ran_at(
     alloc: Global,
-    value: &Value,
+    value: &Node<'_>,
     line: u64,
     received: u64,
     schema: Option<usize>,
@@ -355,11 +355,11 @@ fn ran_at(
 ) -> Result<Taken, AuditFault>
     requires name { length flow.now ≤ spec.max_name }
     requires beside { IfSome beside spec.IsBesideInRange }
-    ensures ok { IfOk result (λ taken. spec.ran_at line received schema flow.now (option_map spec.beside_said beside) (view value.now) ≡ Ok (spec.event taken)) }
+    ensures ok { IfOk result (λ taken. spec.ran_at line received schema flow.now (option_map spec.beside_said beside) (data_of value.now) ≡ Ok (spec.event taken)) }
     ensures ranges { IfOk result spec.IsTakenInRange }
     ensures line { IfOk result (λ taken. taken.line ≡ line) }
     ensures err { IfErr result (λ fault. fault ≢ AuditFault.NoMemory
-        → spec.ran_at line received schema flow.now (option_map spec.beside_said beside) (view value.now) ≡ Err fault) }
+        → spec.ran_at line received schema flow.now (option_map spec.beside_said beside) (data_of value.now) ≡ Err fault) }
 {
     let runs_for = run_at(value, line, received)?;
     let distinguisher = owned(alloc, flow)?;
@@ -382,16 +382,16 @@ fn ran_at(
 fn taken_of(
     alloc: Global,
     choice: &Choice<'_>,
-    value: &Value,
+    value: &Node<'_>,
     line: u64,
 ) -> Result<Outcome, AuditFault>
-    ensures ok { IfOk result (λ outcome. spec.taken_of choice.now line (view value.now) ≡ Ok (spec.event_in outcome)) }
+    ensures ok { IfOk result (λ outcome. spec.taken_of choice.now line (data_of value.now) ≡ Ok (spec.event_in outcome)) }
     ensures named { IfOk result (λ outcome. spec.is_without_name outcome ≡ false) }
     ensures whole { IfOk result (λ outcome. spec.is_still_written outcome ≡ false) }
     ensures ranges { IfOk result spec.IsInRangeIfChosen }
     ensures line { IfOk result (spec.IsOfLine line) }
     ensures err { IfErr result (λ fault. fault ≢ AuditFault.NoMemory
-        → spec.taken_of choice.now line (view value.now) ≡ Err fault) }
+        → spec.taken_of choice.now line (data_of value.now) ≡ Err fault) }
 {
     let user = user_of(value).ok_or(AuditFault::BadUser(line))?;
     let schema = schema_of(alloc, choice.by, user, value)?;
@@ -413,16 +413,16 @@ fn taken_of(
 pub(crate) fn event_of_value(
     alloc: Global,
     choice: &Choice<'_>,
-    value: &Value,
+    value: &Node<'_>,
     line: u64,
 ) -> Result<Outcome, AuditFault>
-    ensures ok { IfOk result (λ outcome. spec.event_of choice.now line (view value.now) ≡ Ok (spec.event_in outcome)) }
-    ensures unnamed { IfOk result (λ outcome. spec.is_nameless (view value.now) ≡ spec.is_without_name outcome) }
+    ensures ok { IfOk result (λ outcome. spec.event_of choice.now line (data_of value.now) ≡ Ok (spec.event_in outcome)) }
+    ensures unnamed { IfOk result (λ outcome. spec.is_nameless (data_of value.now) ≡ spec.is_without_name outcome) }
     ensures whole { IfOk result (λ outcome. spec.is_still_written outcome ≡ false) }
     ensures ranges { IfOk result spec.IsInRangeIfChosen }
     ensures line { IfOk result (spec.IsOfLine line) }
     ensures err { IfErr result (λ fault. fault ≢ AuditFault.NoMemory
-        → spec.event_of choice.now line (view value.now) ≡ Err fault) }
+        → spec.event_of choice.now line (data_of value.now) ≡ Err fault) }
 {
     match is_taken(value) {
         Some(true) if is_unnamed(value) => Ok(Outcome::Unnamed),

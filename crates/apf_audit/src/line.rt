@@ -7,8 +7,8 @@ ghost use Rattle.apf_audit.specs.AuditLog.{judged_line, is_cut_line, is_nameless
 use crate::choice::Choice;
 use crate::event::{Outcome, event_of_value};
 use crate::fault::AuditFault;
-use apf_files::value_of;
-use std::alloc::{AllocError, Global};
+use apf_values::Room;
+use std::alloc::AllocError;
 
 /// The most bytes of a line, without its LF. It bounds what the value of a line takes of memory.
 pub const MAX_LINE: usize = 1_048_576;
@@ -21,7 +21,7 @@ pub fn is_begun(bytes: &[u8]) -> bool
     bytes.starts_with(b"{") && !bytes.starts_with(b"{\0")
 }
 
-/// What line `line` gives, whose bytes come without their LF.
+/// What line `line` gives, whose bytes come without their LF. `room` is kept from line to line.
 ///
 /// `is_ended` says whether an LF ends the line. Where none does, and the line is no JSON text, but begins as an event
 /// does, nothing is taken of it, as it is still written.
@@ -31,7 +31,7 @@ pub fn is_begun(bytes: &[u8]) -> bool
 /// The line's first fault, in the order of `AuditFault`. `NoMemory` only where memory was refused.
 #[tactic(auto, unfolding(crate::specs::AuditLog::judged_line, crate::specs::AuditLog::is_cut_line, crate::specs::AuditLog::is_nameless_line))]
 pub fn read_line(
-    alloc: Global,
+    room: &mut Room,
     choice: &Choice<'_>,
     bytes: &[u8],
     is_ended: bool,
@@ -48,8 +48,9 @@ pub fn read_line(
     if bytes.len() > MAX_LINE {
         return Err(AuditFault::TooLong(line));
     }
-    match value_of(alloc, bytes) {
-        Ok(Some(value)) => event_of_value(alloc, choice, &value, line),
+    let alloc = room.alloc();
+    match room.read(bytes) {
+        Ok(Some(value)) => event_of_value(alloc, choice, &value.node(), line),
         Ok(None) if !is_ended && is_begun(bytes) => Ok(Outcome::Unfinished),
         Ok(None) => Err(AuditFault::NotUtf8Json(line)),
         Err(AllocError) => Err(AuditFault::NoMemory),

@@ -8,6 +8,7 @@ ghost use Rattle.apf_audit_reader.specs.Places.{place_of};
 
 use apf_audit::{AuditFault, Choice, Estimates, Outcome, Taken, read_line};
 use apf_times::{Arrival, Place, Window, WindowError};
+use apf_values::Room;
 use std::alloc::Global;
 
 /// What a line gives: the request that is handed out, if there is one, and why the line itself gives none.
@@ -74,7 +75,7 @@ fn without(is_unnamed: bool, is_unfinished: bool) -> Given
 
 /// Puts the request of this line into the window, if it gives one, and hands out the first that leaves it.
 pub(crate) fn take_line(
-    alloc: Global,
+    room: &mut Room,
     choice: &Choice<'_>,
     estimates: &mut Estimates,
     window: &mut Window<Taken, Global>,
@@ -92,7 +93,7 @@ pub(crate) fn take_line(
     }) window.old fault) }
     ensures size { window.new.size ≡ window.old.size }
 {
-    match read_line(alloc, choice, line, is_ended, number)? {
+    match read_line(room, choice, line, is_ended, number)? {
         Outcome::Chosen(taken) => match put(estimates, window, taken) {
             Ok(first) => Ok(Given {
                 first,

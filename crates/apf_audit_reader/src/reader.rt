@@ -14,6 +14,7 @@ use crate::stage::Stage;
 use apf_audit::{AuditFault, Choice, Estimates, MAX_LINE, Taken};
 use apf_lines::{Cut, Lines};
 use apf_times::{Window, every_window_is_in_order};
+use apf_values::Room;
 use std::alloc::{AllocError, Global};
 use std::io;
 use std::io::{ErrorKind, Read};
@@ -26,10 +27,10 @@ pub const WINDOW: usize = 131_072;
 /// of their lines. It holds at most as many requests as its window's size, so a line may come as many places late.
 #[derive(Drop)]
 pub struct AuditReader {
-    alloc: Global,
     lines: Lines,
     window: Window<Taken, Global>,
     estimates: Estimates,
+    room: Room,
     number: u64,
     unnamed: u64,
     is_cut: bool,
@@ -100,10 +101,10 @@ impl AuditReader {
         ensures size { IfOk result (λ r. r.window.size ≡ size) }
     {
         Ok(AuditReader {
-            alloc,
             lines: Lines::new(alloc, MAX_LINE)?,
             window: Window::new(alloc, size),
             estimates: Estimates::new(alloc),
+            room: Room::new(alloc),
             number: 0,
             unnamed: 0,
             is_cut: false,
@@ -156,7 +157,7 @@ impl AuditReader {
         every_window_is_in_order::<Taken>();
         let number = self.number + 1;
         match take_line(
-            self.alloc,
+            &mut self.room,
             choice,
             &mut self.estimates,
             &mut self.window,

@@ -2,6 +2,7 @@
 
 use apf_audit::{AuditFault, By, Choice, Outcome, Taken, read_line};
 use apf_objects::{Cluster, read_objects};
+use apf_values::Room;
 use std::alloc::Global;
 use std::test::Fail;
 
@@ -49,7 +50,7 @@ fn read(
         since: None,
         until: None,
     };
-    read_line(alloc, &choice, line.as_bytes(), true, 3)
+    read_line(&mut Room::new(alloc), &choice, line.as_bytes(), true, 3)
 }
 
 // The cluster of these objects.

@@ -1,6 +1,7 @@
 //! The id that is taken of an event, and what the server's own log says besides.
 
 use apf_audit::{AuditFault, By, Choice, Outcome, Taken, read_line};
+use apf_values::Room;
 use std::alloc::Global;
 use std::test::Fail;
 
@@ -25,7 +26,7 @@ fn read(alloc: Global, members: &str) -> Result<Outcome, AuditFault> {
         since: None,
         until: None,
     };
-    read_line(alloc, &choice, line.as_bytes(), true, 3)
+    read_line(&mut Room::new(alloc), &choice, line.as_bytes(), true, 3)
 }
 
 // The id of a request that was taken.

@@ -2,7 +2,7 @@
 
 ghost use Rattle.std.specs.Prelude.{◌≡◌, [], None, codes, option_map, IfErr, OnOk};
 ghost use Rattle.serde_json.specs.Find.{get};
-ghost use Rattle.serde_json.specs.View.{view};
+ghost use Rattle.apf_values.specs.Views.{data_of};
 ghost use Rattle.apf_audit.specs.AuditEvent.{name_by};
 ghost use Rattle.apf_objects.specs.Cluster.{HasCatchAll};
 ghost use Rattle.apf_cluster_text.specs.Log.{value_fault, short_fault, IsMatched, IsOfMachine, IsToldAt, IsToldOf};
@@ -10,11 +10,10 @@ ghost use Rattle.apf_cluster_text.specs.LogLines.{HasRead};
 
 use crate::log_lines::{Found, LogLines};
 use apf_audit::is_begun;
-use apf_files::{text_at, value_of};
 use apf_flows::{write_escaped, write_text};
 use apf_objects::{Cluster, Distinguisher, Schema};
 use apf_routing::{place_in, text_or_empty};
-use serde_json::Value;
+use apf_values::{Node, Room};
 use std::alloc::Global;
 use std::io;
 use std::io::{ErrorKind, Read, Write};
@@ -39,10 +38,10 @@ pub enum LogFault {
 }
 
 // What tells the flow of the request of an event from others of its schema.
-fn distinguisher_in<'a>(by: Distinguisher, user: &'a str, event: &'a Value) -> &'a str {
+fn distinguisher_in<'a>(by: Distinguisher, user: &'a str, event: &Node<'a>) -> &'a str {
     match (by, event.get("objectRef")) {
         (Distinguisher::User, _) => user,
-        (Distinguisher::Namespace, Some(object)) => text_or_empty(object, "namespace"),
+        (Distinguisher::Namespace, Some(object)) => text_or_empty(&object, "namespace"),
         (Distinguisher::Namespace, None) => "",
         (Distinguisher::Nothing, _) => "",
     }
@@ -69,7 +68,7 @@ fn write_of_user<W: Write>(
     alloc: Global,
     out: &mut W,
     cluster: &Cluster,
-    event: &Value,
+    event: &Node<'_>,
     user: &str,
     line: u64,
 ) -> Result<(), LogFault>
@@ -89,14 +88,14 @@ fn write_of_user<W: Write>(
 
 // The name of the user of an event: of the one who is impersonated, if there is such a one.
 #[tactic(auto, unfolding(apf_audit::specs::AuditEvent::text_within))]
-fn user_of(event: &Value) -> Option<&str>
-    ensures { option_map (λ user. user.now) result ≡ name_by (view event.now) (get (codes "impersonatedUser") (view event.now)) }
+fn user_of<'a>(event: &Node<'a>) -> Option<&'a str>
+    ensures { option_map (λ user. user.now) result ≡ name_by (data_of event.now) (get (codes "impersonatedUser") (data_of event.now)) }
 {
     let of_user = match event.get("impersonatedUser") {
         Some(user) => user,
         None => event.get("user")?,
     };
-    text_at(of_user, "username")
+    of_user.text_at("username")
 }
 
 // Writes the line of an event, if it is of a request that is complete.
@@ -105,17 +104,17 @@ fn write_event<W: Write>(
     alloc: Global,
     out: &mut W,
     cluster: &Cluster,
-    event: &Value,
+    event: &Node<'_>,
     line: u64,
 ) -> Result<(), LogFault>
     requires { HasCatchAll cluster.now }
-    ensures ok { OnOk result (value_fault line (view event.now) ≡ None) }
-    ensures err { IfErr result (λ fault. IsToldAt fault (value_fault line (view event.now))) }
+    ensures ok { OnOk result (value_fault line (data_of event.now) ≡ None) }
+    ensures err { IfErr result (λ fault. IsToldAt fault (value_fault line (data_of event.now))) }
 {
-    let Some(stage) = text_at(event, "stage") else {
+    let Some(stage) = event.text_at("stage") else {
         return Err(LogFault::NotEvent(line));
     };
-    if text_at(event, "verb").is_none() {
+    if event.text_at("verb").is_none() {
         return Err(LogFault::NotEvent(line));
     }
     if stage != "ResponseComplete" {
@@ -129,7 +128,7 @@ fn write_event<W: Write>(
 
 // Writes the line of the event of this line of a log, if it has one. The line is not too long.
 fn write_line<W: Write>(
-    alloc: Global,
+    room: &mut Room,
     out: &mut W,
     cluster: &Cluster,
     bytes: &[u8],
@@ -140,8 +139,9 @@ fn write_line<W: Write>(
     ensures ok { OnOk result (short_fault line (record { bytes = bytes.now; is_ended = is_ended }) ≡ None) }
     ensures err { IfErr result (λ fault. IsToldAt fault (short_fault line (record { bytes = bytes.now; is_ended = is_ended }))) }
 {
-    match value_of(alloc, bytes) {
-        Ok(Some(event)) => write_event(alloc, out, cluster, &event, line),
+    let alloc = room.alloc();
+    match room.read(bytes) {
+        Ok(Some(event)) => write_event(alloc, out, cluster, &event.node(), line),
         Ok(None) if !is_ended && is_begun(bytes) => Ok(()),
         Ok(None) => Err(LogFault::NotJson(line)),
         Err(_) => Err(LogFault::NoMemory),
@@ -172,10 +172,11 @@ pub fn write_log<R: Read, W: Write>(
     ensures ok { OnOk result (HasRead [] [] (R.remaining input.old) log.old → IsMatched (R.remaining input.old) (R.remaining input.new)) }
     ensures err { IfErr result (λ fault. HasRead [] [] (R.remaining input.old) log.old → IsToldOf (R.remaining input.old) (R.remaining input.new) fault) }
 {
+    let mut room = Room::new(alloc);
     'lines: for _ in 0..u64::MAX {
         match log.next(input) {
             Ok(Some(Found::Held)) => write_line(
-                alloc,
+                &mut room,
                 out,
                 cluster,
                 log.line(),

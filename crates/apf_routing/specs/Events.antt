@@ -1,10 +1,11 @@
 -- What an audit event says of its request.
-use Rattle.std.specs.Prelude.{ℕ, List, [], ◌∷◌, ◌++◌, Option, Some, None, option_and_then, if◌then◌else◌, nat_eq, codes, bytes_eq}
+use Rattle.std.specs.Prelude.{ℕ, List, [], ◌++◌, Option, Some, None, if◌then◌else◌, nat_eq, codes, bytes_eq}
 use Rattle.std.specs.List.{before_first}
-use Rattle.serde_json.specs.Data.{Data, Items, no_items, item}
-use Rattle.serde_json.specs.Find.{get, as_str, as_array}
+use Rattle.serde_json.specs.Data.{Data}
+use Rattle.serde_json.specs.Find.{get}
 use Rattle.apf_files.specs.JsonFile.{text_at}
 use Rattle.apf_objects.specs.Rules.{Text}
+use Rattle.apf_values.specs.Texts.{texts_at}
 use Rattle.apf_matching.specs.Requests.{RequestSaid, TargetSaid, of_resource, of_path}
 
 -- a text, or the empty one
@@ -15,24 +16,6 @@ or_empty (Some text) = text
 -- the text at a key, and the empty text where there is none
 unfoldable pub text_or_empty : Text → Data → Text
 text_or_empty key d = or_empty (text_at key d)
-
--- a text before others, if there is one
-abbrev pub with_text : Option Text → List Text → List Text
-with_text None texts = texts
-with_text (Some text) texts = text ∷ texts
-
--- the texts among these
-abbrev pub texts_of : Items → List Text
-texts_of no_items = []
-texts_of (item d ds) = with_text (as_str d) (texts_of ds)
-
-abbrev pub texts_in : Option Items → List Text
-texts_in None = []
-texts_in (Some items) = texts_of items
-
--- the texts among the members of the array at a key
-unfoldable pub texts_at : Text → Data → List Text
-texts_at key d = texts_in (option_and_then as_array (get key d))
 
 abbrev pub groups_in : Option Data → List Text
 groups_in None = []

@@ -1,18 +1,18 @@
 //! The place of the schema that an event's request is of.
 
 ghost use Rattle.std.specs.Prelude.{◌≡◌, ◌≢◌, ◌<◌, IfOk, IfSome, None, true, map, length, codes};
-ghost use Rattle.serde_json.specs.View.{view};
 ghost use Rattle.apf_objects.specs.Cluster.{HasCatchAll};
 ghost use Rattle.apf_objects.specs.Objects.{has_schema};
 ghost use Rattle.apf_objects.specs.Schemas.{schema_view};
 ghost use Rattle.apf_matching.specs.First.{IsSchemaFor, schema_of};
 ghost use Rattle.apf_matching.specs.Requests.{texts_view, of_path};
+ghost use Rattle.apf_values.specs.Views.{data_of};
 ghost use Rattle.apf_routing.specs.Events as spec;
 
 use crate::said::{groups_of, path_of, resource_of, text_or_empty};
 use apf_matching::{Request, Target, schema_among};
 use apf_objects::{Cluster, Schema};
-use serde_json::Value;
+use apf_values::Node;
 use std::alloc::{AllocError, Global};
 
 // Whose request it is, and what is done: the user, the groups and the verb.
@@ -28,9 +28,9 @@ fn schema_for_object(
     alloc: Global,
     schemas: &[Schema],
     doer: Doer<'_>,
-    object: &Value,
+    object: &Node<'_>,
 ) -> Result<Option<usize>, AllocError>
-    ensures value { IfOk result (λ place. place ≡ schema_of (record { user = doer.entry.user.now; groups = texts_view doer.entry.groups.now; verb = doer.entry.verb.now; target = spec.target_of_object (view object.now) }) (map schema_view schemas.now)) }
+    ensures value { IfOk result (λ place. place ≡ schema_of (record { user = doer.entry.user.now; groups = texts_view doer.entry.groups.now; verb = doer.entry.verb.now; target = spec.target_of_object (data_of object.now) }) (map schema_view schemas.now)) }
     ensures within { IfOk result (λ place. IfSome place (λ i. i < length schemas.now)) }
     ensures some { IfOk result (λ place. has_schema (map schema_view schemas.now) (codes "catch-all") ≡ true → place ≢ None) }
 {
@@ -85,9 +85,9 @@ pub fn schema_of_event(
     alloc: Global,
     schemas: &[Schema],
     user: &str,
-    event: &Value,
+    event: &Node<'_>,
 ) -> Result<Option<usize>, AllocError>
-    ensures value { IfOk result (λ place. place ≡ schema_of (spec.request_of user.now (view event.now)) (map schema_view schemas.now)) }
+    ensures value { IfOk result (λ place. place ≡ schema_of (spec.request_of user.now (data_of event.now)) (map schema_view schemas.now)) }
     ensures within { IfOk result (λ place. IfSome place (λ i. i < length schemas.now)) }
     ensures some { IfOk result (λ place. has_schema (map schema_view schemas.now) (codes "catch-all") ≡ true → place ≢ None) }
 {
@@ -98,7 +98,7 @@ pub fn schema_of_event(
         verb: text_or_empty(event, "verb"),
     };
     match event.get("objectRef") {
-        Some(object) => schema_for_object(alloc, schemas, doer, object),
+        Some(object) => schema_for_object(alloc, schemas, doer, &object),
         None => {
             let path = path_of(text_or_empty(event, "requestURI"));
             Ok(schema_for_path(schemas, doer, path))
@@ -115,10 +115,10 @@ pub fn place_in(
     alloc: Global,
     cluster: &Cluster,
     user: &str,
-    event: &Value,
+    event: &Node<'_>,
 ) -> Result<usize, AllocError>
     requires { HasCatchAll cluster.now }
-    ensures first { IfOk result (λ place. IsSchemaFor (spec.request_of user.now (view event.now)) (map schema_view cluster.now.schemas.items) place) }
+    ensures first { IfOk result (λ place. IsSchemaFor (spec.request_of user.now (data_of event.now)) (map schema_view cluster.now.schemas.items) place) }
     ensures within { IfOk result (λ place. place < length cluster.now.schemas.items) }
 {
     let place = schema_of_event(alloc, cluster.schemas.as_slice(), user, event)?;

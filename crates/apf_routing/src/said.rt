@@ -1,62 +1,33 @@
 //! The texts of an audit event.
 
 ghost use Rattle.std.specs.Prelude.{◌≡◌, ◌++◌, IfOk, codes, string_bytes};
-ghost use Rattle.serde_json.specs.View.{view, items_view};
 ghost use Rattle.apf_matching.specs.Requests.{texts_view};
+ghost use Rattle.apf_values.specs.Views.{data_of};
 ghost use Rattle.apf_routing.specs.Events as spec;
 
-use apf_files::text_at;
-use serde_json::Value;
+use apf_values::{Node, texts_at};
 use std::alloc::{AllocError, Global};
 
 /// The text at a key, and the empty text where there is none.
 #[tactic(auto, unfolding(crate::specs::Events::text_or_empty))]
-pub fn text_or_empty<'a>(value: &'a Value, key: &str) -> &'a str
-    ensures { result.now ≡ spec.text_or_empty key.now (view value.now) }
+pub fn text_or_empty<'a>(node: &Node<'a>, key: &str) -> &'a str
+    ensures { result.now ≡ spec.text_or_empty key.now (data_of node.now) }
 {
-    match text_at(value, key) {
+    match node.text_at(key) {
         Some(text) => text,
         None => "",
     }
 }
 
-// The texts among these values.
-fn texts_of(alloc: Global, items: &[Value]) -> Result<Vec<&str>, AllocError>
-    ensures { IfOk result (λ texts. texts_view texts.items ≡ spec.texts_of (items_view items.now)) }
-{
-    let mut texts = Vec::new(alloc);
-    for item in items {
-        match item.as_str() {
-            Some(text) => texts.push(text)?,
-            None => {}
-        }
-    }
-    Ok(texts)
-}
-
-// The texts among the members of the array at a key.
-#[tactic(auto, unfolding(crate::specs::Events::texts_at))]
-fn texts_at<'a>(alloc: Global, value: &'a Value, key: &str) -> Result<Vec<&'a str>, AllocError>
-    ensures { IfOk result (λ texts. texts_view texts.items ≡ spec.texts_at key.now (view value.now)) }
-{
-    let Some(array) = value.get(key) else {
-        return Ok(Vec::new(alloc));
-    };
-    match array.as_array() {
-        Some(items) => texts_of(alloc, items.as_slice()),
-        None => Ok(Vec::new(alloc)),
-    }
-}
-
 /// The groups of the user of an event: of the one who is impersonated, if there is such a one.
 #[tactic(auto, unfolding(crate::specs::Events::groups_of))]
-pub(crate) fn groups_of(alloc: Global, event: &Value) -> Result<Vec<&str>, AllocError>
-    ensures { IfOk result (λ groups. texts_view groups.items ≡ spec.groups_of (view event.now)) }
+pub(crate) fn groups_of<'a>(alloc: Global, event: &Node<'a>) -> Result<Vec<&'a str>, AllocError>
+    ensures { IfOk result (λ groups. texts_view groups.items ≡ spec.groups_of (data_of event.now)) }
 {
     match event.get("impersonatedUser") {
-        Some(user) => texts_at(alloc, user, "groups"),
+        Some(user) => texts_at(alloc, &user, "groups"),
         None => match event.get("user") {
-            Some(user) => texts_at(alloc, user, "groups"),
+            Some(user) => texts_at(alloc, &user, "groups"),
             None => Ok(Vec::new(alloc)),
         },
     }
@@ -81,8 +52,8 @@ fn joined(alloc: Global, resource: &str, subresource: &str) -> Result<String, Al
 
 /// The resource of an object, with its subresource behind it.
 #[tactic(auto, unfolding(crate::specs::Events::resource_of))]
-pub(crate) fn resource_of(alloc: Global, object: &Value) -> Result<String, AllocError>
-    ensures { IfOk result (λ resource. string_bytes resource ≡ spec.resource_of (view object.now)) }
+pub(crate) fn resource_of(alloc: Global, object: &Node<'_>) -> Result<String, AllocError>
+    ensures { IfOk result (λ resource. string_bytes resource ≡ spec.resource_of (data_of object.now)) }
 {
     let resource = text_or_empty(object, "resource");
     let subresource = text_or_empty(object, "subresource");

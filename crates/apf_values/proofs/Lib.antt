@@ -1,0 +1,6 @@
+mod Readings
+mod Usually
+mod Numbers
+mod Lookups
+mod Listed
+mod Documents

@@ -8,9 +8,9 @@ use Rattle.apf_files.specs.RequestsFile.{AreRequestsOf}
 use Rattle.apf_files.specs.declared.requests.Request.{Request}
 use Rattle.apf_level.specs.declared.report.Report.{Report}
 use Rattle.apf_line.specs.declared.report.Report.{Report as LifeReport}
-use Rattle.apf_life_run.specs.Books.{book_of as rounds_book_of}
-use Rattle.apf_life_run.specs.Faults.{CanRunRounds}
-use Rattle.apf_life_run.specs.Runs.{HasRunRounds}
+use Rattle.apf_run.specs.RoundsBooks.{book_of as rounds_book_of}
+use Rattle.apf_run.specs.RoundsFaults.{CanRunRounds}
+use Rattle.apf_run.specs.RoundsRuns.{HasRunRounds}
 use Rattle.apf_commands.specs.Meaning.{IsActionOf}
 use Rattle.apf_commands.specs.declared.words.Action.{Action}
 use Rattle.apf_commands.specs.declared.words.Arguments.{Arguments}

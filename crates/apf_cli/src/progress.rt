@@ -2,7 +2,7 @@
 
 ghost use Rattle.std.specs.Prelude.{◌≡◌, ◌≤◌, IfSome};
 
-use apf_life_run::Watch;
+use apf_run::rounds::Watch;
 use apf_simulator::{Lane, Progress};
 use std::cell::Cell;
 use std::io::{IsTerminal, Read, Write};

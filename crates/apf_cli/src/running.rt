@@ -2,31 +2,20 @@
 
 ghost use Rattle.std.specs.Prelude.{◌≡◌, ◌<◌, ◌≤◌, IfOk, OnOk};
 ghost use Rattle.apf_cli.specs.Runs.{IsRunOf, IsRunInRounds, PrintsRun, PrintsRounds, PrintsBook};
-ghost use Rattle.apf_life_run.specs.Plans.{max_rounds};
+ghost use Rattle.apf_run.specs.RoundsPlans.{max_rounds};
 
 use crate::faults::Fault;
 use crate::files::{Files, judge_names};
 use crate::progress::{Amount, ProgressLine};
 use crate::reading::{Explained, level_fault, read_level};
-use apf_life_run::{RoundsFault, run_rounds};
-use apf_run::{Report, RunFault, run, write_book};
+use apf_run::rounds::run_rounds;
+use apf_run::{Report, run, write_book};
 use std::alloc::Global;
 use std::hint;
 use std::io::{IsTerminal, Write};
 use std::sync::Wait;
 use std::thread::Threads;
 use std::time::Clock;
-
-impl From<RoundsFault> for Fault {
-    fn from(fault: RoundsFault) -> Fault {
-        match fault {
-            RoundsFault::NoMemory => Fault::NoMemory,
-            RoundsFault::Worker(number) => Fault::Worker(number),
-            RoundsFault::Gate(fault) => RunFault::Gate(fault).into(),
-            RoundsFault::Level(fault) => RunFault::Level(fault).into(),
-        }
-    }
-}
 
 // Work that turns an empty loop.
 struct Turns;
@@ -43,8 +32,8 @@ impl apf_run::Work for Turns {
     }
 }
 
-impl apf_life_run::Work for Turns {
-    fn work(&self, _executing: &apf_life_run::Executing<'_>, units: u32) {
+impl apf_run::rounds::Work for Turns {
+    fn work(&self, _executing: &apf_run::rounds::Executing<'_>, units: u32) {
         turn(units);
     }
 }
@@ -77,7 +66,7 @@ fn ran_in_rounds<F: Files, C: Clock, E: Write + IsTerminal, R: Wait + Threads + 
     rounds: u32,
     clock: &C,
     err: &mut E,
-) -> Result<apf_life_run::Report, Explained>
+) -> Result<apf_run::rounds::Report, Explained>
     requires workers { 0 < workers }
     requires some { 1 ≤ rounds }
     requires few { rounds ≤ max_rounds }
@@ -144,7 +133,7 @@ fn print_rounds<F: Files, O: Write, C: Clock, E: Write + IsTerminal, R: Wait + T
         Ok(report) => report,
         Err(explained) => return Err(explained.told(alloc, is_whole)),
     };
-    Ok(apf_life_run::write_book(&report, out)?)
+    Ok(apf_run::rounds::write_book(&report, out)?)
 }
 
 /// Reads the two files, lets this many workers go this many times through the requests, and prints the book. A single round is

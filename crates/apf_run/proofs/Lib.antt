@@ -1,8 +1,16 @@
 pub mod Makers
 pub mod Faithful
+pub mod Gathered
 pub mod Opened
 pub mod Crews
 pub mod Returned
 pub mod Limits
 pub mod Told
 pub mod Copied
+pub mod Numbers
+pub mod Counting
+pub mod Known
+pub mod RoundsOpened
+pub mod RoundsCrews
+pub mod RoundsReturned
+pub mod RoundsTold

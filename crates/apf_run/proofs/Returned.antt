@@ -1,6 +1,5 @@
 -- What the workers gave back, with what one more gave back.
-use Rattle.std.proofs.Common.{◌≡◌, ◌∙◌, true, List, [], ◌∷◌, ◌++◌, All, arith}
-use Rattle.std.proofs.lemmas.List.{length-append, get_or_append_left}
+use Rattle.std.proofs.Common.{◌≡◌, true, List, [], ◌∷◌, ◌++◌, All}
 use Rattle.std.proofs.lemmas.List.Elements.{All-append, All-push}
 use Rattle.std.proofs.lemmas.List.Quantifiers.{Any-push}
 use Rattle.apf_files.specs.declared.requests.Request.{Request}
@@ -8,18 +7,7 @@ use Rattle.apf_gate.specs.Tokens.{GateId, PassToken, StationToken, pass_gate}
 use Rattle.apf_run.specs.Plans.{IsFaithful, closes_at}
 use Rattle.apf_run.specs.Workers.{Load, IsLoadOf}
 use Rattle.apf_run.specs.Runs.{Returned, AreFinished, SeenClosed}
-
-all_as : {A : Type 0} (P Q : A → Type 0) (xs : List A) → ((x : A) → P x → Q x) → All P xs → All Q xs
-all_as P Q xs f h k d low = f _ (h k d low)
-
-seen_more : (stations : List StationToken) (s : StationToken) → SeenClosed stations → SeenClosed (stations ++ s ∷ [])
-seen_more stations s seen = (
-  seen.0,
-  seen.1,
-  (let l = seen.2 in omega (arith, length-append stations (s ∷ []))),
-  get_or_append_left stations (s ∷ []) _ _ seen.2 ∙ seen.3,
-  seen.4,
-)
+use Rattle.apf_run.proofs.Gathered.{all_as, any_more}
 
 pub one_more : (gate : GateId) (requests : List Request) (r : Returned) (w : Load) → AreFinished gate requests r → IsLoadOf gate requests w
     → AreFinished gate requests (record { dones = r.dones ++ w.dones; stations = r.stations ++ w.station ∷ [] })
@@ -29,7 +17,7 @@ one_more gate requests r w had is =
       own = All-append (λ (t : PassToken). pass_gate t ≡ gate) r.dones w.dones had.own is.dones;
       faithful = All-push (IsFaithful gate requests) r.stations w.station had.faithful is.faithful;
       closed = All-append (Closed stations) r.dones w.dones
-          (all_as (Closed r.stations) (Closed stations) r.dones (λ t seen closes. seen_more r.stations w.station (seen closes)) had.closed)
+          (all_as (Closed r.stations) (Closed stations) r.dones (λ t seen closes. any_more (λ (s : StationToken). s.station.knows.saw_closed ≡ true) r.stations w.station (seen closes)) had.closed)
           (all_as (λ (t : PassToken). closes_at requests t.pass.number ≡ true → w.station.station.knows.saw_closed ≡ true) (Closed stations) w.dones
           (λ t saw closes. Any-push (λ (s : StationToken). s.station.knows.saw_closed ≡ true) r.stations w.station (saw closes)) is.closed);
     }

@@ -1,13 +1,10 @@
 -- What the end of a level says of the requests that its workers ran.
 use Rattle.std.proofs.Common.{◌≡◌, ℕ, ◌<◌, true, List, map, length, All, sym, ap, ◌∙◌, subst, arith}
-use Rattle.std.specs.Prelude.{Any, Some, slice_get, slice_index_or, reverse}
+use Rattle.std.specs.Prelude.{Some, slice_get, reverse}
 use Rattle.std.proofs.lemmas.Option.{slice_get_within, slice_get-get_or}
 use Rattle.apf_words.specs.declared.decision.Decision.TheVariants.{Cancelled}
 use Rattle.apf_words.specs.Level.{Level}
-use Rattle.apf_model.specs.declared.moves.Move.TheVariants.{SetLimit}
 use Rattle.apf_files.specs.declared.requests.Request.{Request}
-use Rattle.apf_gate.specs.declared.record.Actor.TheVariants.{OfStation}
-use Rattle.apf_gate.specs.Traces.{Made}
 use Rattle.apf_gate.specs.Tokens.{PassToken, StationToken}
 use Rattle.apf_gate.specs.Ends.{WroteCancelled, ClosedFirst}
 use Rattle.apf_model.specs.declared.config.Config.{Config}
@@ -21,12 +18,9 @@ use Rattle.apf_level.specs.Levels.{LevelId}
 use Rattle.apf_level.specs.Reports.{AreSums, Ended}
 use Rattle.apf_run.specs.Asks.{asks_of}
 use Rattle.apf_run.specs.Plans.{IsNamed, SomeCloses, IsFaithful, closes_it, closes_at, AreOrders}
-use Rattle.apf_run.proofs.Limits.{limit_stays, made_within}
+use Rattle.apf_run.proofs.Gathered.{of_one}
+use Rattle.apf_run.proofs.Limits.{limit_kept}
 use Rattle.apf_run.specs.Runs.{Returned, AreFinished, SeenClosed, HasRun, ledger_of}
-
--- what follows of one of which P holds, where Q holds of each
-of_one : {A : Type 0} {C : Type 0} (P Q : A → Type 0) (xs : List A) → ((x : A) → P x → Q x → C) → Any P xs → All Q xs → C
-of_one P Q xs f any all = f any.1 any.4 (subst Q any.3 (all any.0 any.1 any.2))
 
 module _ (k : LevelId) (config : Config) (requests : List Request) (report : Report) (r : Returned)
     (opening : k.opening ≡ opening_ledger config (asks_of requests))
@@ -56,18 +50,8 @@ module _ (k : LevelId) (config : Config) (requests : List Request) (report : Rep
       (λ s saw then. then saw) (seen (ap (closes_at requests) here ∙ at)) ended.closed_is_seen)
       (ended.each j low) finished.closed
 
-  -- each Station was handed in, and set no limit
-  sets_none : (j n : ℕ) → j < k.gate.shape.stations → ¬ Made ended.made.trace (OfStation j) (SetLimit n)
-  sets_none j n low made =
-      let any = ended.each_station j low in
-      let s : StationToken = slice_index_or r.stations any.0 any.1 in
-      let faithful : IsFaithful k.gate requests s = finished.faithful any.0 any.1 any.2 in
-      let on = ended.made.goes_on any.0 any.1 any.2 in
-      let number : s.station.number ≡ j = ap (λ (t : StationToken). t.station.number) any.3 ∙ any.4 in
-      faithful.limits n (made_within ended.made.trace s.station.knows.trace (OfStation s.station.number) (SetLimit n) on (subst (λ (i : ℕ). Made ended.made.trace (OfStation i) (SetLimit n)) (sym number) made))
-
   limit_is : report.word.limit ≡ config.limit
-  limit_is = ap (λ (l : Level). l.limit) ended.made.word ∙ (limit_stays k.gate.shape ended.made.trace ended.made.made sets_none ∙ limit)
+  limit_is = ap (λ (l : Level). l.limit) ended.made.word ∙ (limit_kept k.gate (IsNamed requests) requests r.stations ended.made.trace ended.made.made finished.faithful ended.each_station ended.made.goes_on ∙ limit)
 
   same_ledger : record k.opening { history = reverse report.log.items } ≡ ledger_of config requests report
   same_ledger = ap (λ (v : LedgerView). record v { history = reverse report.log.items }) opening

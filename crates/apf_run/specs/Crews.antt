@@ -1,11 +1,11 @@
--- The workers of a run that were started.
+-- The workers of a run, or of a run in rounds, that were started.
 use Rattle.std.specs.Prelude.{ℕ, ◌+◌, ◌<◌, List, [], ◌∷◌}
 use Rattle.std.specs.declared.thread.PromisedHandle.{PromisedHandle}
 use Rattle.apf_run.specs.declared.crew.Share.{Share}
 use Rattle.apf_run.specs.declared.fault.RunFault.{RunFault}
 use Rattle.apf_run.specs.declared.fault.RunFault.TheVariants.{NoMemory, Worker, Gate, Level}
 
--- how many requests they bring to their ends
+-- how many requests they bring to their ends, or slots they give back
 abbrev pub expected : {T : Type 0} → List (PromisedHandle T Share) → ℕ
 expected {T} [] = 0
 expected {T} (h ∷ hs) = h.promise.count + expected hs

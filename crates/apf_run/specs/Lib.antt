@@ -8,3 +8,8 @@ pub mod Crews
 pub mod Runs
 pub mod Faults
 pub mod Waits
+pub mod RoundsPlans
+pub mod RoundsWorkers
+pub mod RoundsRuns
+pub mod RoundsFaults
+pub mod RoundsBooks

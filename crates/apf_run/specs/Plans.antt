@@ -28,12 +28,16 @@ closes_at requests r = closes_it (slice_get requests r)
 abbrev pub SetTo : ℕ → StationToken → Type 0
 SetTo limit s = Made s.station.knows.trace (OfStation s.station.number) (SetLimit limit)
 
--- the Station is of this gate, cancelled only whom some request names, closed first only if some request closes, and set no limit
-pub record IsFaithful (gate : GateId) (requests : List Request) (s : StationToken) : Type 0 where
+-- the Station is of this gate, cancelled only requests of this kind, closed first only if some request closes, and set no limit
+pub record KeepsTo (gate : GateId) (may_cancel : ℕ → Type 0) (requests : List Request) (s : StationToken) : Type 0 where
   pub own : station_gate s ≡ gate
-  pub cancels : (r : ℕ) → WroteCancelled r s → IsNamed requests r
+  pub cancels : (r : ℕ) → WroteCancelled r s → may_cancel r
   pub closes : ClosedFirst s → SomeCloses requests
   pub limits : (limit : ℕ) → ¬ SetTo limit s
+
+-- the Station keeps to the requests, and cancelled only whom some request names
+abbrev pub IsFaithful : GateId → List Request → StationToken → Type 0
+IsFaithful gate requests s = KeepsTo gate (IsNamed requests) requests s
 
 -- the requests are those of the plan, one for each width of the gate
 pub record AreOrders (gate : GateId) (plan requests : List Request) : Type 0 where

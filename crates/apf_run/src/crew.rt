@@ -18,10 +18,10 @@ use std::sync::Wait;
 use std::thread;
 use std::thread::{Promise, PromisedHandle, Scope, Threads};
 
-/// That a worker brings as many requests to their ends.
+/// That a worker brings as many requests to their ends, or goes through all rounds with as many slots.
 #[derive(Drop)]
 pub struct Share {
-    count: usize,
+    pub(crate) count: usize,
 }
 
 impl<K: Plan> Promise<Result<Worker<K>, AllocError>> for Share {

@@ -4,6 +4,7 @@ ghost use Rattle.std.specs.Prelude.{◌≡◌};
 ghost use Rattle.apf_session.specs.Openings.{told_of_level};
 ghost use Rattle.apf_run.specs.declared.fault.RunFault.TheVariants as run;
 ghost use Rattle.apf_run.specs.Faults.{told_of_replay};
+ghost use Rattle.apf_run.specs.RoundsFaults.{told_of_opening};
 
 use apf_book::BookFault;
 use apf_gate::GateFault;
@@ -39,6 +40,18 @@ impl From<ReplayFault> for RunFault {
             ReplayFault::Gate(fault) => Self::Gate(fault),
             ReplayFault::Level(fault) => Self::Level(fault),
             ReplayFault::NoMemory => Self::NoMemory,
+        }
+    }
+}
+
+impl From<apf_life_session::OpenFault> for RunFault {
+    ghost from_gives = { λ fault told. told ≡ told_of_opening fault };
+
+    fn from(fault: apf_life_session::OpenFault) -> Self {
+        match fault {
+            apf_life_session::OpenFault::Gate(fault) => Self::Gate(fault),
+            apf_life_session::OpenFault::Level(fault) => Self::Level(fault),
+            apf_life_session::OpenFault::NoMemory => Self::NoMemory,
         }
     }
 }

@@ -8,6 +8,7 @@
 //! - `plan`: which level and which requests a run is of. `operator`: a worker's Station, and `worker` a worker with
 //!   its share of the requests. `crew`: all workers, dealt out, started and joined. `finished`: what they gave back.
 //! - `running`: runs requests by workers. `book`: writes what a run reports.
+//! - `rounds`: the same in rounds, on a level whose slots are used again.
 #![tactic(auto)]
 
 mod asks;
@@ -20,6 +21,7 @@ mod plan;
 mod record;
 mod recorder;
 mod replaying;
+pub mod rounds;
 mod running;
 mod services;
 mod totals;

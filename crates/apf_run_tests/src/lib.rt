@@ -7,6 +7,7 @@
 //! - `writing`: writers without room. `absent`: numbers of what is not there. `refused`: what is out of range.
 //! - `faults`: which fault of the gate and the level is told as which, and what the faults print.
 //! - `asserts`: assertions as calls.
+//! - `rounds`: runs in rounds.
 #![tactic(auto)]
 
 #[cfg(test)]
@@ -23,6 +24,8 @@ mod meeting;
 mod orders;
 #[cfg(test)]
 mod refused;
+#[cfg(test)]
+mod rounds;
 #[cfg(test)]
 mod runs;
 #[cfg(test)]

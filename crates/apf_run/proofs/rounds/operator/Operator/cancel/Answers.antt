@@ -1,0 +1,7 @@
+use Rattle.apf_run.specs.RoundsPlans.{IsNamedIn}
+use Rattle.apf_run.proofs.Faithful.{tried}
+use Rattle.apf_run.proofs.rounds.operator.Operator.cancel.Goals as goal
+
+pub invariant_of-self : goal.invariant_of-self
+invariant_of-self g c =
+    tried g.K.Naming.level.gate (IsNamedIn g.K.Plan.requests g.K.Plan.rounds) g.K.Plan.requests c.self.inside.station c.cancel_owing.new.station c.args.request.number c.cancel_owing.result.0 c.self.invariant c.cancel_owing.ensures.same.gate c.requires.named c.cancel_owing.ensures.answer

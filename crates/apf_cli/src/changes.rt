@@ -1,6 +1,9 @@
 //! The changes of a second cluster, and the lines on standard error of one that is refused.
 
-ghost use Rattle.std.specs.Prelude.{◌≡◌, ◌≢◌, IfErr, OnOk};
+ghost use Rattle.std.specs.Prelude.{◌≡◌, ◌≢◌, IfErr, IfOk, Ok, OnOk, map, string_bytes};
+ghost use Rattle.clap.specs.Walk.{texts as texts_now};
+ghost use Rattle.apf_changes.specs.Applying.{with_texts};
+ghost use Rattle.apf_changes.specs.Scenarios.{scenario_view};
 
 use crate::faults::Fault;
 use apf_changes::{
@@ -217,7 +220,9 @@ fn refused_fault(alloc: Global, texts: &[&str], refused: Refused) -> Fault
 }
 
 // Copies of these texts.
-fn copies(alloc: Global, texts: &[&str]) -> Result<Vec<String>, AllocError> {
+fn copies(alloc: Global, texts: &[&str]) -> Result<Vec<String>, AllocError>
+    ensures { IfOk result (λ all. map string_bytes all.items ≡ texts_now texts.now) }
+{
     let mut all = Vec::new(alloc);
     for text in texts {
         all.push(String::from_str(alloc, text)?)?;
@@ -230,11 +235,9 @@ fn copies(alloc: Global, texts: &[&str]) -> Result<Vec<String>, AllocError> {
 /// # Errors
 ///
 /// `Change` with the line of the first one that is refused, or `NoMemory`.
-pub(crate) fn changed(
-    alloc: Global,
-    scenario: Scenario,
-    texts: &[&str],
-) -> Result<Scenario, Fault> {
+pub(crate) fn changed(alloc: Global, scenario: Scenario, texts: &[&str]) -> Result<Scenario, Fault>
+    ensures { IfOk result (λ after. with_texts 0 (texts_now texts.now) (scenario_view scenario) ≡ Ok (scenario_view after)) }
+{
     let all = copies(alloc, texts)?;
     match apply_all(alloc, scenario, all.as_slice()) {
         Ok(scenario) => Ok(scenario),

@@ -1,9 +1,10 @@
 //! The commands on the objects of a cluster.
 
-ghost use Rattle.std.specs.Prelude.{◌≡◌, ◌≤◌, IfOk, vec_len};
+ghost use Rattle.std.specs.Prelude.{◌≡◌, ◌≤◌, IfOk, Ok, vec_len};
 ghost use Rattle.apf_files.specs.JsonFile.{value_in, value_of};
 ghost use Rattle.apf_matching.specs.Limits.{max_seats};
-ghost use Rattle.apf_objects.specs.Cluster.{HasCatchAll, most_levels};
+ghost use Rattle.apf_objects.specs.Cluster.{HasCatchAll, IsClusterOf, cluster_view, most_levels};
+ghost use Rattle.apf_cli.specs.Clusters.{AreObjectsOf};
 
 use crate::faults::Fault;
 use crate::files::{Files, Input, cause_of, judge_names, open_input, read_input, shown};
@@ -80,7 +81,8 @@ struct Objects {
 
 // Reads the objects of this name.
 fn read_objects<F: Files>(alloc: Global, files: &mut F, name: &str) -> Result<Objects, Fault>
-    ensures { IfOk result (λ objects. value_in objects.parsed ≡ value_of objects.bytes.items) }
+    ensures parsed { IfOk result (λ objects. value_in objects.parsed ≡ value_of objects.bytes.items) }
+    ensures held { IfOk result (λ objects. F.holds name.now objects.bytes.items) }
 {
     let bytes = match read_input(files, Input::Objects, name) {
         Ok(bytes) => bytes,
@@ -93,6 +95,7 @@ fn read_objects<F: Files>(alloc: Global, files: &mut F, name: &str) -> Result<Ob
 // The cluster of the objects of this name.
 fn cluster_of(alloc: Global, name: &str, objects: &Objects) -> Result<Cluster, Fault>
     requires { value_in objects.now.parsed ≡ value_of objects.now.bytes.items }
+    ensures read { IfOk result (λ cluster. IsClusterOf objects.now.bytes.items (Ok (cluster_view cluster))) }
     ensures catch_all { IfOk result HasCatchAll }
     ensures few { IfOk result (λ cluster. vec_len cluster.levels ≤ most_levels) }
 {
@@ -111,6 +114,7 @@ pub(crate) fn read_cluster<F: Files>(
     files: &mut F,
     name: &str,
 ) -> Result<Cluster, Fault>
+    ensures read { IfOk result (λ cluster. AreObjectsOf F.holds name.now (cluster_view cluster)) }
     ensures catch_all { IfOk result HasCatchAll }
     ensures few { IfOk result (λ cluster. vec_len cluster.levels ≤ most_levels) }
 {
@@ -142,6 +146,7 @@ pub(crate) fn read_other<F: Files>(
     files: &mut F,
     name: &str,
 ) -> Result<Cluster, Fault>
+    ensures read { IfOk result (λ cluster. AreObjectsOf F.holds name.now (cluster_view cluster)) }
     ensures catch_all { IfOk result HasCatchAll }
     ensures few { IfOk result (λ cluster. vec_len cluster.levels ≤ most_levels) }
 {
@@ -158,6 +163,8 @@ pub(crate) fn read_twice<F: Files>(
     files: &mut F,
     name: &str,
 ) -> Result<(Cluster, Cluster), Fault>
+    ensures read { IfOk result (λ clusters. AreObjectsOf F.holds name.now (cluster_view clusters.0)) }
+    ensures same { IfOk result (λ clusters. cluster_view clusters.1 ≡ cluster_view clusters.0) }
     ensures few { IfOk result (λ clusters. vec_len clusters.0.levels ≤ most_levels) }
     ensures catch_all_too { IfOk result (λ clusters. HasCatchAll clusters.1) }
     ensures few_too { IfOk result (λ clusters. vec_len clusters.1.levels ≤ most_levels) }
@@ -182,20 +189,6 @@ pub(crate) fn print_cluster<F: Files, O: Write>(
     write_cluster(out, &cluster, seats).map_err(|_| Fault::CannotWrite)
 }
 
-// The groups that a text names, with a comma between two.
-fn groups_of<'a>(alloc: Global, names: Option<&'a str>) -> Result<Vec<&'a str>, Fault> {
-    let mut groups = Vec::new(alloc);
-    let Some(names) = names else {
-        return Ok(groups);
-    };
-    for name in names.split(",") {
-        if groups.push(name).is_err() {
-            return Err(Fault::NoMemory);
-        }
-    }
-    Ok(groups)
-}
-
 // What the request of a command line asks for.
 fn target_of<'a>(asked: &Asked<'a>) -> Result<Target<'a>, Fault> {
     match (asked.resource, asked.path) {
@@ -214,7 +207,7 @@ fn target_of<'a>(asked: &Asked<'a>) -> Result<Target<'a>, Fault> {
 // Whether an option says something of a request.
 fn says_request(asked: &Asked<'_>) -> bool {
     asked.user.is_some()
-        || asked.groups.is_some()
+        || !asked.groups.is_empty()
         || asked.verb.is_some()
         || asked.resource.is_some()
         || asked.api_group.is_some()
@@ -234,11 +227,10 @@ fn print_match<F: Files, O: Write>(
         return Err(Fault::NoRequest);
     };
     let target = target_of(asked)?;
-    let groups = groups_of(alloc, asked.groups)?;
     let cluster = read_cluster(alloc, files, objects)?;
     let request = Request {
         user,
-        groups: groups.as_slice(),
+        groups: asked.groups.as_slice(),
         verb,
         target,
     };

@@ -2,7 +2,8 @@
 
 ghost use Rattle.std.specs.Prelude.{◌≤◌, IfOk, vec_len};
 ghost use Rattle.apf_matching.specs.Limits.{max_seats};
-ghost use Rattle.apf_objects.specs.Cluster.{HasCatchAll, most_levels};
+ghost use Rattle.apf_objects.specs.Cluster.{HasCatchAll, cluster_view, most_levels};
+ghost use Rattle.apf_cli.specs.Clusters.{AreObjectsOf, AreScenarios, IsOther};
 
 use crate::changes::changed;
 use crate::clusters::{read_cluster, read_other, read_twice};
@@ -35,6 +36,8 @@ fn read_both<F: Files>(
     objects: &str,
     against: Option<&str>,
 ) -> Result<(Cluster, Cluster), Fault>
+    ensures read { IfOk result (λ clusters. AreObjectsOf F.holds objects.now (cluster_view clusters.0)) }
+    ensures other { IfOk result (λ clusters. IsOther F.holds against.entry (cluster_view clusters.0) (cluster_view clusters.1)) }
     ensures few { IfOk result (λ clusters. vec_len clusters.0.levels ≤ most_levels) }
     ensures catch_all_too { IfOk result (λ clusters. HasCatchAll clusters.1) }
     ensures few_too { IfOk result (λ clusters. vec_len clusters.1.levels ≤ most_levels) }
@@ -62,6 +65,7 @@ pub(crate) fn read_scenarios<F: Files>(
 ) -> Result<(Cluster, Scenario), Fault>
     requires some { 1 ≤ seats }
     requires few { seats ≤ max_seats }
+    ensures read { IfOk result (λ read. AreScenarios F.holds objects.now second.entry seats (cluster_view read.0) read.1) }
     ensures levels { IfOk result (λ read. vec_len read.0.levels ≤ most_levels) }
 {
     let (cluster, other) = read_both(alloc, files, objects, second.against)?;

@@ -106,7 +106,7 @@ def happenings(made, fates, by_seats, as_usual):
     for it in entered:
         if it in own:
             costs.setdefault((trace[it]["hash"], trace[it]["width"]), set()).add(asked[it]["cost"])
-    known = sum(map(len, made.means.sets))
+    known = sum(map(len, made.means.sets.values()))
     finished = {trace[it]["hash"] for it in made.started}
     happens = {
         MATTERS: fates != by_seats,

@@ -17,7 +17,7 @@ from jsontext import json_text
 from level import hash_of
 from runs import Fates, comparison
 from simulation import BAD_PATIENCE, Run, config_of, flows_of, patience_of, words_of
-from trace import NOT_JSON, TRUNCATED, UNKNOWN_KEY, trace_of
+from trace import NOT_JSON, TRUNCATED, UNKNOWN_KEY, request_of, trace_of
 from traces import Traces
 
 # each command that takes a patience, and how many configs
@@ -42,10 +42,21 @@ def lines_of(out):
     return out.decode().split("\n")[:-1]
 
 
+# what was written last in each place, as several commands are tried on one large trace
+written = {}
+
+
+def paths_of(contents):
+    """Files of these bytes, each in its place among them."""
+    for place, content in enumerate(contents):
+        if place not in written or written[place][1] is not content:
+            written[place] = files(f"file {place}", content), content
+    return [written[place][0] for place in range(len(contents))]
+
+
 def printed(command, contents, *how):
     """What the program does by a command on files of these bytes, with a patience, and by what requests are charged."""
-    paths = [files(f"file {place}", content) for place, content in enumerate(contents)]
-    return run(program, [command, *paths, *words_of(*how)])
+    return run(program, [command, *paths_of(contents), *words_of(*how)])
 
 
 def told(lines, note=""):
@@ -196,7 +207,7 @@ def check_patience(command, levels):
     fault = (2, b"", f"{BAD_PATIENCE}\n".encode())
     for text, patience in worked.PATIENCES:
         if patience is None:
-            for words in ([files(f"file {place}", content) for place, content in enumerate(contents)], missing, ["-"] * len(contents)):
+            for words in (paths_of(contents), missing, ["-"] * len(contents)):
                 got = run(program, [command, *words, text])
                 tally.check(f"{command} {words} with the patience {text!r}", got, fault)
         else:
@@ -265,7 +276,7 @@ def check_standard_input():
         taken = [contents[place] for place in places]
         want = simulation.answer(getattr(simulation, command), taken, 15_000_000)
         for place, content in enumerate(taken):
-            words = [files(f"file {at}", it) for at, it in enumerate(taken)]
+            words = paths_of(taken)
             words[place] = "-"
             done = subprocess.run([program, command, *words, "15s"], input=content, capture_output=True)
             tally.check(f"{command} with - in place {place}", (done.returncode, done.stdout, done.stderr), want)
@@ -316,16 +327,17 @@ def check_long_hands():
     form = '{"schema":"%s","distinguisher":"%s","arrivesAt":%d,"runsFor":0}\n'
     flows = [(f"schema-{number % 8}", "shared" if number < 8 else f"flow-{number}") for number in range(2_000)]
     draws = zip(times.choices(range(2_000), k=140_000), times.choices(range(400_000), k=140_000))
-    lines = [form % (*flows[min(number, flow)], max(0, 100_000 + 5 * number - early)) for number, (flow, early) in enumerate(draws)]
+    drawn = [(*flows[min(number, flow)], max(0, 100_000 + 5 * number - early)) for number, (flow, early) in enumerate(draws)]
+    lines = [form % it for it in drawn]
     content = "".join(lines).encode()
-    trace = trace_of(content, in_pieces=True)
+    trace = [request_of({"schema": schema, "distinguisher": name, "arrivesAt": at, "runsFor": 0}) for schema, name, at in drawn]
     tally.check("the flows come in another order than they arrive", [it["arrivesAt"] for it in trace] != sorted(it["arrivesAt"] for it in trace), True)
-    for config in ('{"limit":6,"queues":16,"handSize":3,"queueLengthLimit":10}', '{"limit":6,"queues":128,"handSize":6}', '{"limit":6,"queues":2,"handSize":2}', '{"limit":6,"limitResponse":"Reject"}'):
-        level = config_of(config.encode())
-        (status, out, err), took = processor_seconds(lambda: printed("hands", [config.encode(), content]))
+    for config in (b'{"limit":6,"queues":16,"handSize":3,"queueLengthLimit":10}', b'{"limit":6,"queues":128,"handSize":6}', b'{"limit":6,"queues":2,"handSize":2}', b'{"limit":6,"limitResponse":"Reject"}'):
+        level = config_of(config)
+        (status, out, err), took = processor_seconds(lambda: printed("hands", [config, content]))
         tally.check(f"hands of 140,000 lines on {config}", (status, err, lines_of(out) == simulation.hands(level, trace)), (0, b"", True))
         tally.check(f"hands of 140,000 lines on {config} in well under ten seconds: {took:.2f} s", took < 10, True)
-        status, out, err = printed("hands", [config.encode(), content], "--flow=shared")
+        status, out, err = printed("hands", [config, content], "--flow=shared")
         tally.check(f"hands of eight flows of one name on {config}", (status, err, lines_of(out) == simulation.hands_of(level, trace, "shared")), (0, b"", True))
     config = b'{"limit":6,"queues":16,"handSize":3}'
     note = 'apf: nothing matched: no flow of the trace has the distinguisher "nobody"\n'
@@ -395,10 +407,12 @@ def check_long():
     tally.check(f"fates of 300,000 requests in well under ten seconds: {took:.2f} s", took < 10, True)
     fates = Fates(lines_of(out))
     tally.check("each of the lines has its form", fates.are_formed, True)
-    meant = [(at, number) for at, number in sorted((at, number) for number, (_, at, _) in enumerate(drawn))]
+    meant = sorted([(at, number) for number, (_, at, _) in enumerate(drawn)])
     tally.check("the 300,000 are in the order of the arrivals", [(int(it["arrival"]), int(it["request"])) for it in fates.rows] == meant, True)
-    tally.check("each is of its request", all((int(it["flow"], 16), it["start"] == "-" or int(it["start"]) + drawn[int(it["request"])][2] == int(it["end"])) == (drawn[int(it["request"])][0], True) for it in fates.rows), True)
-    count = {name: sum(it["decision"] in names for it in fates.rows) for name, names in (("executed", ["execute"]), ("rejected", ["queue-full"]), ("cancelled", ["cancelled"]))}
+    of_rows = [(it, drawn[int(it["request"])]) for it in fates.rows]
+    tally.check("each is of its request", all(int(it["flow"], 16) == flow and (it["start"] == "-" or int(it["start"]) + runs == int(it["end"])) for it, (flow, _, runs) in of_rows), True)
+    decisions = collections.Counter(it["decision"] for it in fates.rows)
+    count = {"executed": decisions["execute"], "rejected": decisions["queue-full"], "cancelled": decisions["cancelled"]}
     _, whole, _ = printed("simulate", [config, content], "1ms")
     decided = next(line.split(" ") for line in whole.decode().split("\n") if line.startswith("executed "))
     book = {decided[place]: int(decided[place + 1]) for place in range(0, 6, 2)}
@@ -482,8 +496,7 @@ def check_crowd():
             ("compare", [many, few], []),
             ("compare", [few, many], []),
         ]:
-            paths = [files(f"file {place}", it) for place, it in enumerate([*configs, content])]
-            tally.check(f"{command} {more} of a crowd, {name}", run(program, [command, *paths, "0", *more]), (1, b"", said))
+            tally.check(f"{command} {more} of a crowd, {name}", run(program, [command, *paths_of([*configs, content]), "0", *more]), (1, b"", said))
         # the level that rejects has room for all
         tally.check(f"compare of a crowd that is turned away, {name}", printed("compare", [few, few, content], 0)[0], 0)
     status, out, err = printed("fates", [many, b"".join([*[form % (it % 7, it, 0) for it in range(150_000)], *crowd])], 0)

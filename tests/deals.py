@@ -1,4 +1,4 @@
-"""2,000 random deals and 500 random hashes, against an independent computation."""
+"""2,000 random deals and 500 random hashes, against independent computations."""
 
 import hashlib
 import os
@@ -14,12 +14,23 @@ program = build()
 draw = random.Random(int(os.environ.get("APF_SEED", "1040")))
 
 
-def hand_of(deck, hand, number):
+def hand_by_list(deck, hand, number):
     """Takes cards out of a list."""
     cards, dealt = list(range(deck)), []
     for _ in range(hand):
         number, place = divmod(number, len(cards))
         dealt.append(cards.pop(place))
+    return dealt
+
+
+def hand_of(deck, hand, number):
+    """The same without a list, which is long for a large deck: a place is among the cards that are left, so each card that was taken before it moves it on."""
+    dealt = []
+    for left in range(deck, deck - hand, -1):
+        number, card = divmod(number, left)
+        for taken in sorted(dealt):
+            card += taken <= card
+        dealt.append(card)
     return dealt
 
 
@@ -45,6 +56,8 @@ def text():
 for _ in range(2000):
     deck, hand = sizes()
     number = draw.choice([draw.getrandbits(64), draw.randint(0, 4 * deck), (1 << 64) - 1 - draw.randint(0, 9)])
+    if deck <= 1024:
+        tally.check(f"both computations of {deck} {hand} {number}", hand_of(deck, hand, number), hand_by_list(deck, hand, number))
     want = " ".join(map(str, hand_of(deck, hand, number))) + "\n"
     tally.check(f"deal {deck} {hand} {number}", run(program, ["deal", str(deck), str(hand), str(number)]), (0, want.encode(), b""))
 for _ in range(500):

@@ -1,6 +1,8 @@
 """The line of how far a command is, which a person sees at a terminal: what it says by the trace and by `fates`, how often it comes, and that nothing else
 is touched by it."""
 
+import bisect
+import functools
 import json
 import os
 import pty
@@ -95,24 +97,34 @@ def judge_pace(name, seen):
     return told
 
 
-def trace_of(many):
+@functools.cache
+def drawn(many):
     """A trace, with its requests' arrivals in their order."""
     text = subprocess.run([compiled(files, "long"), "trace", "7", str(many), "200", "100", "0"], stdout=subprocess.PIPE, check=True).stdout
-    arrivals = [(int(it), number) for number, it in enumerate(re.findall(rb'"arrivesAt":(\d+)', text))]
+    return files("trace", text), sorted(map(int, re.findall(rb'"arrivesAt":(\d+)', text)))
+
+
+def trace_of(many):
+    path, arrivals = drawn(many)
     tally.check("each request has an arrival", len(arrivals), many)
-    return files("trace", text), sorted(arrivals)
+    return path, arrivals
 
 
 def judge_waits(name, told, arrivals, fates):
     """Who waits once so many came, by what became of each: at its moment a request may go on before or after that."""
-    rows = [it.split(b" ", 7) for it in fates.splitlines()[1:]]
-    queued = [(int(arrival), int(end if start == b"-" else start)) for _, _, arrival, queue, start, end, *_ in rows if queue != b"-"]
+    # of those that entered a queue: the arrival, the start and the end
+    rows = re.findall(rb"^\d+ \w+ (\d+) \d+ (\d+|-) (\d+) ", fates, re.M)
+    queued = [(int(arrival), int(end if start == b"-" else start)) for arrival, start, end in rows]
+    waited = [it for it in queued if it[0] < it[1]]
+    tally.check(f"{name}: some wait, and nobody to a time before its arrival", (waited != [], all(arrival <= until for arrival, until in queued)), (True, True))
+    # the times at which they came, and those until which they wait
+    (came_then, until_then), (came_at, until_at) = ([sorted(it) for it in zip(*those)] for those in (waited, queued))
     for came, _, _, waits, _ in told:
-        now = arrivals[came - 1][0]
-        fewest = sum(1 for arrival, until in queued if arrival < now < until)
-        most = sum(1 for arrival, until in queued if arrival <= now <= until)
+        now = arrivals[came - 1]
+        # who came before and waits still; and those too who come or go on at this time
+        fewest = bisect.bisect_left(came_then, now) - bisect.bisect_right(until_then, now)
+        most = bisect.bisect_right(came_at, now) - bisect.bisect_left(until_at, now)
         tally.check(f"{name}: who waits once {came} came: {fewest} to {most}", fewest <= waits <= most, True)
-    tally.check(f"{name}: some wait", any(until > arrival for arrival, until in queued), True)
 
 
 def check_simulation():
@@ -124,7 +136,7 @@ def check_simulation():
     seen = Seen(words)
     told = judge_pace("simulate", seen)
     tally.check("simulate prints the same", seen.printed() == plain, True)
-    tally.check("simulate: the seconds of the trace", [it[1] for it in told], [arrivals[it[0] - 1][0] // 1_000_000 for it in told])
+    tally.check("simulate: the seconds of the trace", [it[1] for it in told], [arrivals[it[0] - 1] // 1_000_000 for it in told])
     tally.check("simulate: the hundredths are of who came", [it for it in told if abs(it[4] - 100 * it[0] / MANY) > 3], [])
     _, fates, _ = run(program, ["fates", *words[1:]])
     judge_waits("simulate", told, arrivals, fates)
@@ -198,7 +210,7 @@ def check_lines():
     judge_lines("hands", ["hands", config, path], MANY)
     log = files("log", subprocess.run([compiled(files, "long"), "log", "7", str(MANY // 4), files("sums", "")], stdout=subprocess.PIPE, check=True).stdout)
     with open(log, "rb") as file:
-        many = sum(1 for _ in file)
+        many = file.read().count(b"\n")
     objects = os.path.join(TOP, "examples", "cluster", "objects.json")
     plain = judge_lines("trace", ["trace", log, "service-accounts"], many)
     judge_lines("cluster", ["cluster", objects, log, "15s"], many)

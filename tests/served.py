@@ -160,7 +160,7 @@ class Served(Run):
         return self.calendar[:1]
 
     def carry_out(self, time, kind, request):
-        self.calls.append(heapq.heappop(self.calendar))
+        self.calls.append((time, kind, request))
         asked = self.trace[request]
         if kind == ARRIVE:
             self.coming.remove(request)
@@ -172,12 +172,6 @@ class Served(Run):
         else:
             self.seat(self.level.cancel(request), time)
             self.waited_until[request] = time
-
-    def seat(self, requests, time):
-        """These took seats at this time."""
-        for request in requests:
-            self.started[request] = self.waited_until[request] = time
-            heapq.heappush(self.calendar, (time + self.trace[request]["runsFor"], FINISH, request))
 
     def set_limit(self, time, limit):
         met["over the limit"] += len(self.level.running) > limit

@@ -18,6 +18,7 @@ from heapq import heappop, heappush
 count = int(sys.argv[1]) if len(sys.argv) > 1 else 100_000
 server_log = open(sys.argv[2], "w") if len(sys.argv) > 2 else None
 draw, draw_seats, write = random.Random(1040).random, random.Random(1041).random, sys.stdout.write
+as_json = json.JSONEncoder(separators=(",", ":")).encode
 LEASE, PODS = {"resource": "leases", "apiGroup": "coordination.k8s.io", "apiVersion": "v1"}, {"resource": "pods", "apiVersion": "v1"}
 
 
@@ -104,7 +105,7 @@ for number in range(count):
     event |= {"requestURI": "/api/v1" if target else "/healthz", "verb": verb, "user": user}
     event |= {"objectRef": target} if target else {}
     event |= {"responseStatus": {"code": 429 if away else 200}, "requestReceivedTimestamp": time_text(now), "stageTimestamp": time_text(end)}
-    heappush(ending, (end, number, json.dumps(event, separators=(",", ":")) + "\n", line(event, end - now) if server_log else ""))
+    heappush(ending, (end, number, as_json(event) + "\n", line(event, end - now) if server_log else ""))
     while ending and ending[0][0] <= now:
         put(*heappop(ending)[2:])
 for it in sorted(ending):

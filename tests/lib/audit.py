@@ -120,16 +120,21 @@ def finite(text):
     return float(text)
 
 
+decoded = json.JSONDecoder(parse_constant=no_constant, parse_float=finite).decode
+
+
 # the last lines are kept, as large logs of the tests repeat some; what is made of one is not changed
 @functools.lru_cache(maxsize=256)
 def value_of(line):
-    """The JSON value of a line. Python alone takes NaN and the like, numbers without an end, a mark of byte order, and halves of a surrogate pair."""
+    """The JSON value of a line. Python alone takes NaN and the like, numbers without an end, a mark of byte order, and halves of a surrogate pair, which stand
+    there as escapes."""
     try:
         text = line.decode("utf-8")
         if text.startswith("\ufeff"):
             raise NotJson
-        value = json.loads(text, parse_constant=no_constant, parse_float=finite)
-        json.dumps(value, ensure_ascii=False).encode("utf-8")
+        value = decoded(text)
+        if "\\u" in text:
+            json.dumps(value, ensure_ascii=False).encode("utf-8")
     except (ValueError, RecursionError):
         raise NotJson from None
     return value
@@ -159,7 +164,8 @@ def instant(text):
         whole = datetime.datetime.fromisoformat(second + offset.replace("Z", "+00:00"))
     except ValueError:
         return None
-    micros = (whole - EPOCH) // datetime.timedelta(microseconds=1) + int((fraction or "")[:6].ljust(6, "0"))
+    since = whole - EPOCH
+    micros = (86_400 * since.days + since.seconds) * 10**6 + int((fraction or "")[:6].ljust(6, "0"))
     return micros if micros >= 0 else None
 
 

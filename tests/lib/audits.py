@@ -4,6 +4,7 @@ import datetime
 import json
 
 from audit import BAD_ARRIVAL, BAD_RECEIVED, BAD_RUN, BAD_STAGE, BAD_USER, BAD_WAIT, Choice, LASTING, NOT_EVENT, NOT_JSON, QUEUE_WAIT
+from jsontext import encoder
 
 USERS = ["system:serviceaccount:kube-system:job-controller", "system:node:node-7", "alice@example.com", "kubernetes-admin", "", 'o"\\\u20ac\U0001f600\u0001\u007f\u0085\u200f\u202e\u2028\u2067']
 VERBS = ["get", "list", "create", "update", "patch", "delete", "deletecollection"]
@@ -18,7 +19,7 @@ def time_text(micros, draw=None):
     """An instant as the API server writes it, or in another form of RFC 3339."""
     whole, part = divmod(micros, 10**6)
     offset = draw.choice([0, 0, 0, 0, 60, -210, 840]) if draw else 0
-    clock = datetime.datetime.fromtimestamp(whole + 60 * offset, datetime.timezone.utc).strftime("%Y-%m-%dT%H:%M:%S")
+    clock = datetime.datetime.fromtimestamp(whole + 60 * offset, datetime.timezone.utc).isoformat()[:19]
     fraction = f"{part:06d}"
     if draw and draw.random() < 0.2:
         # digits beyond a microsecond, which are cut
@@ -107,7 +108,7 @@ class Logs:
         keys = [*event]
         self.draw.shuffle(keys)
         blank = self.draw.choice(["", "", "", " ", "\t", " \r "])
-        text = json.dumps({key: event[key] for key in keys}, ensure_ascii=self.draw.random() < 0.5, separators=(f"{blank},{blank}", f"{blank}:{blank}"))
+        text = encoder(self.draw.random() < 0.5, blank)({key: event[key] for key in keys})
         return f"{blank}{text}{self.draw.choice(['', '', blank, chr(13)])}".encode()
 
     def good(self):

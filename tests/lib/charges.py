@@ -1,6 +1,6 @@
 """What a level's requests are charged: an independent computation of costs by the mean running times of flows, written from the rules."""
 
-from collections import OrderedDict
+from collections import OrderedDict, defaultdict
 
 # in microseconds: what a request is expected to run if none has, and the most that is told of one
 FIRST_GUESS = 10_000
@@ -33,7 +33,7 @@ class Means:
     """The means of flows, in sets of eight, in each of which the flow goes that learned longest ago."""
 
     def __init__(self):
-        self.sets = [OrderedDict() for _ in range(SETS)]
+        self.sets = defaultdict(OrderedDict)
         self.firsts = Mean()
 
     def expected(self, flow):

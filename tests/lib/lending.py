@@ -1,4 +1,4 @@
-"""How a server lends seats among its levels: an independent computation, written from the rules, with fractions, and slow on purpose. Nothing is kept of
+"""How a server lends seats among its levels: an independent computation, written from the rules, with exact fractions, and slow on purpose. Nothing is kept of
 what requests ask for: it is made anew at the end of each period, from the times at which they came and were over.
 
 A level is a dict: `exempt`, `shares`, `lendable` and `borrowing`, both in per cent, the second of them None where there is no limit. It may
@@ -6,9 +6,7 @@ have a nominal limit that is `fixed`, in seats.
 """
 
 import collections
-import itertools
 import math
-from fractions import Fraction
 
 from simulation import ARRIVE
 
@@ -23,18 +21,19 @@ Claim = collections.namedtuple("Claim", "least current most target")
 Observed = collections.namedtuple("Observed", "high mean deviation")
 
 
-def half_up(number):
-    return math.floor(number + Fraction(1, 2))
+def half_up(number, of=1):
+    """The whole number nearest to a fraction, and of two the greater one."""
+    return (2 * number + of) // (2 * of)
 
 
 def bounds_of(level, levels, seats):
     """The limits of a level of these, where the server has so many seats. Its nominal limit may be fixed."""
     total = sum(it["shares"] for it in levels)
-    nominal = math.ceil(Fraction(seats * level["shares"], total)) if total else 0
+    nominal = -(-seats * level["shares"] // total) if total else 0
     if level.get("fixed") is not None:
         nominal = level["fixed"]
-    borrowed = seats if level["borrowing"] is None else half_up(Fraction(nominal * level["borrowing"], 100))
-    return Bounds(nominal - half_up(Fraction(nominal * level["lendable"], 100)), nominal, nominal + borrowed)
+    borrowed = seats if level["borrowing"] is None else half_up(nominal * level["borrowing"], 100)
+    return Bounds(nominal - half_up(nominal * level["lendable"], 100), nominal, nominal + borrowed)
 
 
 def limit_of(seats):
@@ -45,38 +44,45 @@ def limit_of(seats):
 # ---- what requests ask for
 
 
-def stays_of(run):
-    """From when until when each request is there that arrived and was not rejected, without an end as long as none is known, and for how many seats it asks."""
-    coming = set(run.coming)
+def stays_of(run, since=-math.inf):
+    """From when until when each request is there that arrived and was not rejected, without an end as long as none is known, and for how many seats it asks;
+    of those that are there later than this time."""
+    started, waited_until, decided, coming = run.started, run.waited_until, run.level.decided, run.coming
     for request, asked in enumerate(run.trace):
-        decision = run.level.decided.get(request)
-        if request in run.started:
-            yield asked["arrivesAt"], run.started[request] + asked["runsFor"], asked["width"]
-        elif decision == "cancelled":
-            yield asked["arrivesAt"], run.waited_until[request], asked["width"]
-        elif decision is None and request not in coming:
-            yield asked["arrivesAt"], math.inf, asked["width"]
+        if request in started:
+            over = started[request] + asked["runsFor"]
+        elif request in waited_until:
+            over = waited_until[request]
+        elif request in decided or request in coming:
+            # it was rejected, or did not arrive yet
+            continue
+        else:
+            over = math.inf
+        if over > since:
+            yield asked["arrivesAt"], over, asked["width"]
 
 
 def stretches_of(stays, begin, end):
     """For how many seats is asked from the one time to the other, and for how long."""
-    changes = collections.Counter({begin: 0, end: 0})
+    changes = collections.defaultdict(int, {begin: 0, end: 0})
     for came, over, seats in stays:
-        came, over = max(came, begin), min(over, end)
-        if came < over:
-            changes[came] += seats
-            changes[over] -= seats
+        if came < over and came < end and over > begin:
+            changes[max(came, begin)] += seats
+            changes[min(over, end)] -= seats
+    asked, stretches = 0, []
     times = sorted(changes)
-    asked = itertools.accumulate(changes[it] for it in times)
-    return [(seats, later - time) for seats, time, later in zip(asked, times, times[1:])]
+    for time, later in zip(times, times[1:]):
+        asked += changes[time]
+        stretches.append((asked, later - time))
+    return stretches
 
 
 def observed_of(stretches):
     """The most seats at once; the mean and the deviation, in thousandths of a seat."""
-    length = sum(micros for _, micros in stretches)
-    mean = math.floor(Fraction(1000 * sum(seats * micros for seats, micros in stretches), length))
-    squares = math.floor(Fraction(1_000_000 * sum(seats * seats * micros for seats, micros in stretches), length))
-    return Observed(max(seats for seats, _ in stretches), mean, math.isqrt(max(squares - mean * mean, 0)))
+    length = sum([micros for _, micros in stretches])
+    mean = 1000 * sum([seats * micros for seats, micros in stretches]) // length
+    squares = 1_000_000 * sum([seats * seats * micros for seats, micros in stretches]) // length
+    return Observed(max([seats for seats, _ in stretches]), mean, math.isqrt(max(squares - mean * mean, 0)))
 
 
 def smoothed_of(before, observed):
@@ -94,19 +100,22 @@ def claim_of(level, bounds, high, smoothed):
 # ---- how the seats are divided
 
 
-def share(claim, factor):
-    """What a level has by this factor."""
-    return min(claim.most, max(claim.current, factor * claim.target))
+def share(claim, factor, of=1):
+    """What a level has by this factor, which is a fraction, as that fraction's numerator."""
+    return min(claim.most * of, max(claim.current * of, factor * claim.target))
 
 
 def factor_of(seats, claims):
-    """The factor by which all have these seats together: between two factors at which a level ceases to follow it, what all have grows evenly."""
-    ends = {Fraction(at, claim.target) for claim in claims if claim.target for at in (claim.current, claim.most)}
-    below, had = Fraction(0), sum(claim.current for claim in claims)
+    """The factor by which all have these seats together, as a fraction: between two factors at which a level ceases to follow it, what all have grows
+    evenly."""
+    # these factors are whole numbers of such parts
+    parts = math.lcm(*(claim.target for claim in claims if claim.target))
+    ends = {at * (parts // claim.target) for claim in claims if claim.target for at in (claim.current, claim.most)}
+    below, had = 0, parts * sum(claim.current for claim in claims)
     for end in sorted(ends):
-        have = sum(share(claim, end) for claim in claims)
-        if have >= seats:
-            return below + (end - below) * (seats - had) / (have - had)
+        have = sum(share(claim, end, parts) for claim in claims)
+        if have >= parts * seats:
+            return below * (have - had) + (end - below) * (parts * seats - had), parts * (have - had)
         below, had = end, have
     raise ValueError("they have no more than that by any factor")
 
@@ -128,10 +137,10 @@ def division(seats, claims):
     if way == "most":
         return [it.most for it in claims]
     if way == "factor":
-        factor = factor_of(seats, claims)
-        return [half_up(share(it, factor)) for it in claims]
+        factor, of = factor_of(seats, claims)
+        return [half_up(share(it, factor, of), of) for it in claims]
     least, current = sum(it.least for it in claims), sum(it.current for it in claims)
-    return [it.least + half_up((it.current - it.least) * Fraction(seats - least, current - least)) for it in claims]
+    return [it.least + half_up((it.current - it.least) * (seats - least), current - least) for it in claims]
 
 
 # ---- levels side by side
@@ -171,7 +180,7 @@ class Lender:
         self.go_on(time)
         claims = []
         for place, run in enumerate(self.runs):
-            observed = observed_of(stretches_of(stays_of(run), time - PERIOD, time))
+            observed = observed_of(stretches_of(stays_of(run, time - PERIOD), time - PERIOD, time))
             self.smoothed[place] = smoothed_of(self.smoothed[place], observed)
             claims.append(claim_of(self.levels[place], self.bounds[place], observed.high, self.smoothed[place]))
         self.adjusted.append((time, claims))

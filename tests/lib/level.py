@@ -25,16 +25,20 @@ def hash_of(schema, distinguisher):
 
 
 class Level:
-    """A level of one thread. Lists and scans alone: nothing is kept that could be counted."""
+    """A level of one thread. Lists and scans alone: nothing is kept that could be counted. Only the queues in which somebody waits are known, since a level
+    may have a thousand."""
 
     def __init__(self, config, requests):
         self.config, self.requests = config, requests
         self.limit, self.closed = config["limit"], False
         queues = config["queues"] if config["limitResponse"] == "Queue" else 0
         self.queues = [[] for _ in range(queues)]
+        self.busy = set()
         # virtual time: where each queue's next service starts, how far the level is, and who was served last
         self.starts, self.time, self.last = [0] * queues, 0, queues - 1
         self.arrived, self.running, self.decided = set(), set(), {}
+        # all that ever took seats, in that order
+        self.seated = []
         # for each request that was dispatched and is not settled: its queue, and what that is charged for it. For each that is settled: what it took
         self.charged, self.settled = {}, {}
         # each change of a charge: how many events there were before it, whether it is the last one, its request and its queue, and what that is
@@ -54,7 +58,7 @@ class Level:
         return sum([self.requests[request]["width"] for request in self.running])
 
     def waiting(self):
-        return sum(map(len, self.queues))
+        return sum([len(self.queues[queue]) for queue in self.busy])
 
     def fits(self, request):
         seats = self.seats()
@@ -65,22 +69,31 @@ class Level:
         if kind in ("dispatch", "strike"):
             self.lines.append(f"{kind} {request} queue {queue}")
 
+    def seat(self, request):
+        self.decided[request] = "execute"
+        self.running.add(request)
+        self.seated.append(request)
+
+    def leave(self, request, queue):
+        self.queues[queue].remove(request)
+        if not self.queues[queue]:
+            self.busy.remove(queue)
+
     def dispatch(self):
         # where no seat is free nobody fits
-        while (busy := [queue for queue, waiting in enumerate(self.queues) if waiting]) and self.seats() < self.limit:
+        while self.busy and self.seats() < self.limit:
             # of those that finish first, the next one behind the last that was served
             behind, count = self.last + 1, len(self.queues)
-            chosen = min([(self.starts[queue] + self.cost(self.queues[queue][0]), (queue - behind) % count, queue) for queue in busy])[2]
+            chosen = min([(self.starts[queue] + self.cost(self.queues[queue][0]), (queue - behind) % count, queue) for queue in self.busy])[2]
             request = self.queues[chosen][0]
             if not self.fits(request):
                 return
-            self.queues[chosen].pop(0)
+            self.leave(request, chosen)
             self.time = max(self.time, self.starts[chosen])
             self.starts[chosen] += self.cost(request)
             self.charged[request] = (chosen, self.cost(request))
             self.last = chosen
-            self.decided[request] = "execute"
-            self.running.add(request)
+            self.seat(request)
             self.note("dispatch", request, chosen)
 
     def arrive(self, request):
@@ -90,9 +103,8 @@ class Level:
         self.arrived.add(request)
         if request not in self.decided and self.closed:
             self.decided[request] = "closed"
-        elif request not in self.decided and not self.waiting() and self.fits(request):
-            self.decided[request] = "execute"
-            self.running.add(request)
+        elif request not in self.decided and not self.busy and self.fits(request):
+            self.seat(request)
         elif request not in self.decided and not self.queues:
             self.decided[request] = "concurrency-limit"
         if request in self.decided:
@@ -114,6 +126,7 @@ class Level:
         if not self.queues[queue]:
             self.starts[queue] = max(self.starts[queue], self.time)
         self.queues[queue].append(request)
+        self.busy.add(queue)
         self.lines.append(f"arrive {request} queued {queue}")
         self.note("enter", request, queue)
         self.dispatch()
@@ -143,9 +156,9 @@ class Level:
     def cancel(self, request):
         self.decided.setdefault(request, "cancelled")
         self.lines.append(f"cancel {request} {self.decided[request]}")
-        for queue, waiting in enumerate(self.queues):
-            if self.decided[request] == "cancelled" and request in waiting:
-                waiting.remove(request)
+        if self.decided[request] == "cancelled":
+            for queue in [it for it in self.busy if request in self.queues[it]]:
+                self.leave(request, queue)
                 self.note("strike", request, queue)
                 self.dispatch()
 

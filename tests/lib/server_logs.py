@@ -5,7 +5,6 @@ import ast
 import collections
 import json
 import re
-from fractions import Fraction
 
 from audit import Handed, NotJson, at, lines_of, value_of
 from audits import duration_text
@@ -24,11 +23,18 @@ Line = collections.namedtuple("Line", "schema width run")
 
 def text_in(value):
     """The text that Go quoted, or the value as it stands. Python's own quotes know each escape of Go's, and these tests have no bytes alone."""
-    return ast.literal_eval(value) if value.startswith('"') else value
+    if not value.startswith('"'):
+        return value
+    # most texts have no escape
+    return ast.literal_eval(value) if "\\" in value else value[1:-1]
 
 
 def nanos_in(value):
-    return sum(int(Fraction(count) * NANOS[name]) for count, name in AMOUNT.findall(text_in(value)))
+    nanos = 0
+    for count, name in AMOUNT.findall(text_in(value)):
+        whole, _, behind = count.partition(".")
+        nanos += int(whole + behind) * NANOS[name] // 10 ** len(behind)
+    return nanos
 
 
 def line_in(text):
@@ -189,13 +195,13 @@ class ServerLogs:
                 lines.append((number, self.other(name)))
             if kind < 0.3:
                 lines.append((number, self.line(draw.choice([None, "", f"{number} of no event"]), draw.choice(schemas))))
-        names = {}
+        names, kept = {}, []
         for number, text in lines:
             found = line_in(text)
-            if found:
-                names.setdefault(found[0], text)
-        # of an id there is one line
-        lines = [(number, text) for number, text in lines if not line_in(text) or names[line_in(text)[0]] is text]
+            # of an id there is one line
+            if not found or names.setdefault(found[0], text) is text:
+                kept.append((number, text))
+        lines = kept
         how = draw.random()
         if how < 0.2:
             draw.shuffle(lines)

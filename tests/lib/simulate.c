@@ -7,7 +7,7 @@
  * seats where one of the lines has a cost that are read before the first request is handed out, and by time elsewhere. The lines of TRACE are as
  * {"hash":1,"width":2,"cost":3,"arrivesAt":4,"runsFor":5}, where width and cost may be absent. Behind what a run prints stands its status.
  *
- * A trace is held as a whole and sorted, each wait is kept, and all queues in which somebody waits are looked at for each dispatch. */
+ * A trace is held as a whole, and its requests come by an order that is made before. Each wait is kept, and all queues in which somebody waits are looked at for each dispatch. */
 #define _GNU_SOURCE
 #include <stdint.h>
 #include <stdio.h>
@@ -21,10 +21,11 @@ enum { MOST_THERE = 10000, MOST_FLOWS = 100000, MOST_EXACT = 10000, WINDOW = 131
 enum { COMING, RUNNING, WAITING, EXECUTED, QUEUE_FULL, NO_ROOM, CANCELLED };
 enum { BY_TIME, BY_SEATS };
 
+/* its number is that of its line, from 0 */
 struct request {
     uint64_t hash;
     int64_t arrives, runs, ends;
-    uint32_t line, width, line_cost, cost, row, next;
+    uint32_t width, line_cost, cost, row, next;
     /* of one that was dispatched: the queue that was charged; else -1 */
     int32_t charged;
     uint16_t queue, state;
@@ -125,7 +126,6 @@ static int read_trace(const char *name) {
             all = resized(all, (room = 2 * room + 1000) * sizeof *all);
         struct request *it = &all[count];
         memset(it, 0, sizeof *it);
-        it->line = count;
         it->charged = -1;
         it->hash = NUMBER_BEHIND("{\"hash\":", 0);
         it->width = NUMBER_BEHIND(",\"width\":", 1);
@@ -139,31 +139,39 @@ static int read_trace(const char *name) {
     return costs;
 }
 
-/* The requests by their arrivals, and those of one time by their lines. */
+/* The requests in the order in which they come: by their arrivals, and those of one time by their lines. */
 
-struct place {
-    int64_t arrives;
-    uint32_t line;
-};
+static uint32_t *order, order_room;
 
-static int by_arrival(const void *a, const void *b) {
-    const struct place *one = a, *other = b;
-    if (one->arrives != other->arrives)
-        return one->arrives < other->arrives ? -1 : 1;
-    return one->line < other->line ? -1 : one->line > other->line;
+static int comes_before(uint32_t one, uint32_t other) {
+    return all[one].arrives != all[other].arrives ? all[one].arrives < all[other].arrives : one < other;
 }
 
+static int by_arrival(const void *a, const void *b) {
+    uint32_t one = *(const uint32_t *)a, other = *(const uint32_t *)b;
+    return comes_before(one, other) ? -1 : comes_before(other, one);
+}
+
+/* Most lines come in order. Those that come late are sorted for themselves, and put among the others from the last one on. */
 static void sort(void) {
-    struct place *places = resized(NULL, (count + 1) * sizeof *places);
-    struct request *sorted = resized(NULL, room * sizeof *sorted + 1);
-    for (uint32_t line = 0; line < count; line++)
-        places[line] = (struct place){all[line].arrives, line};
-    qsort(places, count, sizeof *places, by_arrival);
-    for (uint32_t turn = 0; turn < count; turn++)
-        sorted[turn] = all[places[turn].line];
-    free(places);
-    free(all);
-    all = sorted;
+    uint32_t in_order = 0, late = 0, *lates;
+    if (order_room < count)
+        order = resized(order, (order_room = count) * sizeof *order);
+    lates = resized(NULL, (count + 1) * sizeof *lates);
+    for (uint32_t line = 0; line < count; line++) {
+        if (in_order && comes_before(line, order[in_order - 1]))
+            lates[late++] = line;
+        else
+            order[in_order++] = line;
+    }
+    qsort(lates, late, sizeof *lates, by_arrival);
+    for (uint32_t turn = count; late; turn--) {
+        if (in_order && comes_before(lates[late - 1], order[in_order - 1]))
+            order[turn - 1] = order[--in_order];
+        else
+            order[turn - 1] = lates[--late];
+    }
+    free(lates);
 }
 
 /* What a request is charged, by the means of the flows that are known: sets of eight, in each of which the flow goes that learned longest ago. */
@@ -280,7 +288,7 @@ static void print_row(const struct row *row) {
 /* The level. */
 
 static int ends_before(uint32_t one, uint32_t other) {
-    return all[one].ends != all[other].ends ? all[one].ends < all[other].ends : all[one].line < all[other].line;
+    return all[one].ends != all[other].ends ? all[one].ends < all[other].ends : one < other;
 }
 
 static void execute(uint32_t number, int64_t now) {
@@ -413,7 +421,7 @@ static uint32_t queue_of(const struct request *it) {
 
 static void arrive(uint32_t number, int64_t now) {
     struct request *it = &all[number];
-    it->row = row_of(it->hash, it->line);
+    it->row = row_of(it->hash, number);
     rows[it->row].requests++;
     it->cost = cost_of(it);
     if (!waiting && fits(it)) {
@@ -465,11 +473,11 @@ static void run(void) {
     begin();
     sort();
     for (;;) {
-        int64_t arrival = coming < count ? all[coming].arrives : INT64_MAX, late = INT64_MAX, over = INT64_MAX;
-        while (oldest < coming && all[oldest].state != WAITING)
+        int64_t arrival = coming < count ? all[order[coming]].arrives : INT64_MAX, late = INT64_MAX, over = INT64_MAX;
+        while (oldest < coming && all[order[oldest]].state != WAITING)
             oldest++;
         if (patience && oldest < coming)
-            late = all[oldest].arrives + patience;
+            late = all[order[oldest]].arrives + patience;
         if (running_count)
             over = all[running[0]].ends;
         if (over == INT64_MAX && late == INT64_MAX && arrival == INT64_MAX)
@@ -477,15 +485,15 @@ static void run(void) {
         if (over <= late && over <= arrival) {
             finish(end = over);
         } else if (late <= arrival) {
-            give_up(oldest, end = late);
+            give_up(order[oldest], end = late);
         } else if (running_count + waiting == MOST_THERE) {
-            printf("apf: at line %u, at %lld, more than 10000 requests are there at once\nstatus 1\n", all[coming].line + 1, (long long)arrival);
+            printf("apf: at line %u, at %lld, more than 10000 requests are there at once\nstatus 1\n", order[coming] + 1, (long long)arrival);
             for (uint32_t at = 0; at <= MOST_FLOWS; at++)
                 if (at < row_count || at == MOST_FLOWS)
                     free(rows[at].waits);
             return;
         } else {
-            arrive(coming++, end = arrival);
+            arrive(order[coming++], end = arrival);
         }
     }
     sum seat_time = 0;

@@ -1,6 +1,6 @@
 """What the commands print of requests with times: an independent computation, slow on purpose.
 
-A run looks at each step for what is due, and makes the calls of the independent level (level.py). A request is given its cost as it arrives, by the
+A run carries out what is due first, and makes the calls of the independent level (level.py). A request is given its cost as it arrives, by the
 means of what finished until then (charges.py). By time, what it took is charged in the place of its cost as it finishes.
 """
 
@@ -8,6 +8,7 @@ import collections
 import functools
 import re
 from fractions import Fraction
+from heapq import heapify, heappop, heappush
 
 from charges import Means, taken
 from judge import Refused, config_of, dealer_fault
@@ -58,8 +59,11 @@ class Run:
         # what each request asks of the level: its cost is there once it arrived
         self.asked = [{**it} for it in trace]
         self.level = Level(config, self.asked)
-        # the requests that did not arrive yet, in the order of their arrivals
-        self.coming = sorted(range(len(trace)), key=lambda it: (trace[it]["arrivesAt"], it))
+        # the requests that did not arrive yet
+        self.coming = set(range(len(trace)))
+        # what is due, as far as it is known, the first on top: its time, its kind and its request
+        self.calendar = [(asked["arrivesAt"], ARRIVE, it) for it, asked in enumerate(trace)]
+        heapify(self.calendar)
         # when each request took its seats, and when each wait was over: by its seats, or by giving up
         self.started, self.waited_until = {}, {}
         # each call that was made: its time, its kind and its request
@@ -68,16 +72,15 @@ class Run:
 
     def go_on(self, until=None):
         """Carries out what is due, to its end or until a call would come at this time, or later. Behind a time may stand a kind of call."""
-        while (first := min(self.due(), default=None)) and (until is None or first < until):
-            self.carry_out(*first)
+        while (due := self.due()) and (until is None or due[0] < until):
+            self.carry_out(*heappop(self.calendar))
 
     def due(self):
-        """What is due, as far as it is known now. A call may make more due at once: the finish of a request that runs for no time."""
-        trace, started, patience = self.trace, self.started, self.patience
-        due = [(started[it] + trace[it]["runsFor"], FINISH, it) for it in self.level.running]
-        if patience:
-            due += [(trace[it]["arrivesAt"] + patience, CANCEL, it) for queue in self.level.queues if queue for it in queue]
-        return due + [(trace[it]["arrivesAt"], ARRIVE, it) for it in self.coming[:1]]
+        """What is due first. Who does not wait any more does not give up. A call may make more due at once: the finish of a request that runs for no time."""
+        calendar, decided = self.calendar, self.level.decided
+        while calendar and calendar[0][1] == CANCEL and calendar[0][2] in decided:
+            heappop(calendar)
+        return calendar[:1]
 
     def cost(self, request):
         """The cost of a request that arrives now: that of its line, or of its flow by time, or its width."""
@@ -87,8 +90,8 @@ class Run:
         return self.means.cost(asked["hash"], asked["width"]) if self.means else asked["width"]
 
     def carry_out(self, time, kind, request):
-        before = set(self.level.running)
         if kind == ARRIVE:
+            self.coming.remove(request)
             self.asked[request]["cost"] = self.cost(request)
         if kind == FINISH and self.means:
             asked = self.trace[request]
@@ -96,21 +99,21 @@ class Run:
             self.means.learn(asked["hash"], asked["runsFor"])
         getattr(self.level, WORDS[kind])(request)
         self.calls.append((time, kind, request))
-        self.seat(before, time)
+        self.seat(self.level.seated[len(self.started) :], time)
         if kind == CANCEL:
             self.waited_until[request] = time
-        if kind == ARRIVE:
-            self.coming.remove(request)
+        if kind == ARRIVE and self.patience and request not in self.level.decided:
+            heappush(self.calendar, (time + self.patience, CANCEL, request))
 
-    def seat(self, before, time):
-        """Who has seats now, and had none before, took them at this time."""
-        for other in self.level.running - before:
-            self.started[other] = self.waited_until[other] = time
+    def seat(self, requests, time):
+        """These took seats at this time, and it is known when they finish."""
+        for request in requests:
+            self.started[request] = self.waited_until[request] = time
+            heappush(self.calendar, (time + self.trace[request]["runsFor"], FINISH, request))
 
     def set_limit(self, time, limit):
-        before = set(self.level.running)
         self.level.set_limit(limit)
-        self.seat(before, time)
+        self.seat(self.level.seated[len(self.started) :], time)
 
     def wait(self, request):
         """How long it waited for its seats, or until it gave up. A request that is rejected does not wait."""
@@ -252,19 +255,19 @@ def hands(config, trace):
     """Each hand, with how many other flows have each of its queues, and the first ten of those that have all of them."""
     flows, lines = flows_of(trace), []
     dealt = dealt_of(config, flows)
-    queues_of = {flow: set(hand) for flow, hand in dealt.items()}
-    # the flows that have each queue, in their order
-    holders = collections.defaultdict(list)
+    queues_of = {flow: frozenset(hand) for flow, hand in dealt.items()}
+    # how many flows have each queue; and who has the same ones, in their order: as all hands are of one size, who has all queues of a hand has no other
+    holders, alike = collections.Counter(), collections.defaultdict(list)
     for flow, queues in queues_of.items():
-        for queue in queues:
-            holders[queue].append(flow)
+        holders.update(queues)
+        alike[queues].append(flow)
     for flow, members in flows.items():
         own = queues_of[flow]
         lines.append(" ".join([f"flow {flow:016x} hand", *map(str, dealt[flow])]) + of_names(trace, members))
         for queue in dealt[flow]:
-            if sharers := len(holders[queue]) - 1:
+            if sharers := holders[queue] - 1:
                 lines.append(f"  shares {queue} with {sharers} flows")
-        covers = [it for it in min((holders[queue] for queue in own), key=len, default=[]) if queues_of[it] >= own and it != flow]
+        covers = [it for it in alike[own] if it != flow] if own else []
         if covers:
             lines.append(" ".join(["  covered by", *(f"{it:016x}" for it in covers[:10])]))
         if covers[10:]:
@@ -276,13 +279,14 @@ def hands_of(config, trace, name):
     """The hands of the flows of a distinguisher, and all who share a queue with each."""
     flows, lines = flows_of(trace), []
     dealt = dealt_of(config, flows)
+    queues_of = {flow: frozenset(hand) for flow, hand in dealt.items()}
     for flow, members in flows.items():
         if (trace[members[0]]["names"] or (None, None))[1] != name:
             continue
         lines.append(" ".join([f"flow {flow:016x} hand", *map(str, dealt[flow])]) + of_names(trace, members))
         covers = []
         for other, its_members in flows.items():
-            shared = [queue for queue in dealt[flow] if queue in dealt[other]]
+            shared = [queue for queue in dealt[flow] if queue in queues_of[other]]
             if other != flow and shared:
                 lines.append(" ".join(["  shares", *map(str, shared), "with", f"{other:016x}", *names_of(trace, its_members)]))
                 covers += [f"{other:016x}"] if shared == dealt[flow] else []

@@ -1,7 +1,6 @@
 """Traces for tests: drawn ones, those at the ends of what is allowed, and faulty ones, of which each comes with its first fault."""
 
-import json
-
+from jsontext import encoder
 from trace import BAD_ARRIVAL, BAD_COST, BAD_FLOW, BAD_RUN, BAD_WIDTH, NOT_JSON, NOT_OBJECT, TOO_LONG, TOO_MANY, TRUNCATED, UNKNOWN_KEY
 
 LETTERS = 'abcABC012 -_/.:äß€😀\u2028\n\t\x01\x1c\x7f\x85\u200f\u202e\u2067"\\'
@@ -73,9 +72,7 @@ class Traces:
         keys = [*each]
         self.draw.shuffle(keys)
         blank = self.draw.choice(["", "", " ", "\t", " \r "])
-        text = json.dumps(
-            {key: each[key] for key in keys}, ensure_ascii=self.draw.random() < 0.5, separators=(f"{blank},{blank}", f"{blank}:{blank}")
-        )
+        text = encoder(self.draw.random() < 0.5, blank)({key: each[key] for key in keys})
         return f"{blank}{text}{blank}".encode()
 
     def content(self, objects):

@@ -56,7 +56,7 @@ module _ {T : Type 0} where
   added P [] x all one = (one, tt)
   added P (h ∷ hs) x all one = (all.0, added P hs x all.1 one)
 
-  in_place : (hs : List (Arrival T)) (x : Arrival T) → AreInPlace hs → AllByRecursion (λ h. precedes x.place h.place ≡ false) hs → AreInPlace (hs ++ x ∷ [])
+  pub in_place : (hs : List (Arrival T)) (x : Arrival T) → AreInPlace hs → AllByRecursion (λ h. precedes x.place h.place ≡ false) hs → AreInPlace (hs ++ x ∷ [])
   in_place [] x order all = (tt, tt)
   in_place (h ∷ hs) x order all = (added (λ y. precedes y.place h.place ≡ false) hs x order.0 all.0, in_place hs x order.1 all.1)
 

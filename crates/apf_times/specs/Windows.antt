@@ -1,6 +1,7 @@
 -- The order of places, and what a window hands out.
-use Rattle.std.specs.Prelude.{◌≡◌, ℕ, ◌<◌, ◌≤◌, Bool, false, List, [], ◌∷◌, length, Option, Some, None, IsPermutation}
+use Rattle.std.specs.Prelude.{◌≡◌, ℕ, ◌<◌, ◌≤◌, Bool, false, List, [], ◌∷◌, ◌++◌, length, map, Option, Some, None, IsPermutation}
 use Rattle.std.specs.declared.cmp.Ordering.{Ordering}
+use Rattle.std.specs.declared.cmp.Reverse.{Reverse}
 use Rattle.std.specs.List.{AllByRecursion}
 use Rattle.std.specs.Ordering.{nat_cmp, ordering_then, is_lt}
 use Rattle.apf_times.specs.declared.window.Place.{Place}
@@ -30,6 +31,14 @@ abbrev pub is_late : Place → Option Place → Bool
 is_late place None = false
 is_late place (Some last) = precedes place last
 
+-- what stands behind `Reverse`
+abbrev pub unwrapped : {T : Type 0} → List (Reverse (Arrival T)) → List (Arrival T)
+unwrapped xs = map (λ x. x.0) xs
+
+-- all that is held: what came in order, and what came late
+abbrev pub all_held : {T : Type 0} → List (Arrival T) → List (Reverse (Arrival T)) → List (Arrival T)
+all_held in_order late = in_order ++ unwrapped late
+
 -- none of these is before it
 abbrev pub NoneBefore : {T : Type 0} → Arrival T → List (Arrival T) → Type 0
 NoneBefore x xs = AllByRecursion (λ y. precedes y.place x.place ≡ false) xs
@@ -39,6 +48,11 @@ pub record HandsOut {T : Type 0} (from : List (Arrival T)) (first : Arrival T) (
   pub same : IsPermutation from (first ∷ v.held)
   pub is_first : NoneBefore first v.held
   pub last : v.last ≡ Some first.place
+
+-- the first of these leaves, if there is one, and the others stay
+abbrev pub IsHandedOut : {T : Type 0} → List (Arrival T) → Option (Arrival T) → List (Arrival T) → Type 0
+IsHandedOut from None held = (from ≡ []) × (held ≡ from)
+IsHandedOut from (Some first) held = IsPermutation from (first ∷ held) × NoneBefore first held
 
 -- One more came: it is held, or, where the window holds its size, the first of all is handed out.
 abbrev pub IsPushed : {T : Type 0} → Arrival T → WindowView T → Option (Arrival T) → WindowView T → Type 0

@@ -175,3 +175,49 @@ fn each_refusal_is_returned(rt: HostRuntime) {
     }
     assert!(rt; refusals > 3 && refusals < 99);
 }
+
+// Fills a window of a hundred, and goes on, each second time with what is late. Says whether all memory that it
+// took was taken until it was full.
+fn fills_once<A: Allocator>(rt: &impl Abort, alloc: &Refusing<A>) -> bool {
+    let mut window = Window::new(alloc, 100);
+    for line in 0..101u64 {
+        if push(&mut window, 1_000u64.saturating_add(line), line).is_err() {
+            return false;
+        }
+    }
+    for line in 101..400u64 {
+        let late = if line % 2 == 0 { 0 } else { 90 };
+        let at = 1_000u64.saturating_add(line).saturating_sub(late);
+        is_at(rt, push(&mut window, at, line).is_ok(), true, line);
+    }
+    !alloc.has_refused()
+}
+
+#[test]
+fn a_full_window_takes_no_memory(rt: HostRuntime) {
+    let mut requests = 0u32;
+    for refused in 1..100 {
+        if fills_once(&rt, &Refusing::new(rt.alloc(), refused)) {
+            break;
+        }
+        requests = requests.saturating_add(1);
+    }
+    assert!(rt; requests > 3 && requests < 99);
+}
+
+// One comes far ahead of the others, which are handed out before it, in their order.
+#[test]
+fn one_far_ahead(rt: HostRuntime) {
+    let mut window = Window::new(rt.alloc(), 3);
+    is(&rt, push(&mut window, 900, 0), Ok(None));
+    is(&rt, push(&mut window, 10, 1), Ok(None));
+    is(&rt, push(&mut window, 30, 2), Ok(None));
+    is(&rt, push(&mut window, 20, 3), Ok(Some((10, 1, 100))));
+    is(&rt, push(&mut window, 25, 4), Ok(Some((20, 3, 300))));
+    is(&rt, push(&mut window, 900, 5), Ok(Some((25, 4, 400))));
+    is(&rt, push(&mut window, 901, 6), Ok(Some((30, 2, 200))));
+    is(&rt, told(window.pop()), Some((900, 0, 0)));
+    is(&rt, told(window.pop()), Some((900, 5, 500)));
+    is(&rt, told(window.pop()), Some((901, 6, 600)));
+    is(&rt, told(window.pop()), None);
+}

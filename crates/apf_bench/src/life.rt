@@ -2,14 +2,14 @@
 //! slots in turn.
 
 ghost use Rattle.std.specs.Prelude.{◌≡◌, length};
-ghost use Rattle.apf_life_session.specs.Openings.{level_of};
+ghost use Rattle.apf_session.specs.LifeOpenings.{level_of};
 
 use crate::choices::picos_each;
 use crate::course::REQUESTS;
 use crate::shuffle::Shuffle;
-use apf_life::{Level, Naming, Report};
-use apf_life_session::{Answer, Opening, Request, Session};
+use apf_level::life::{Level, Naming, Report};
 use apf_model::Ask;
+use apf_session::life::{Answer, Opening, Request, Session};
 use std::alloc::Global;
 use std::marker::Brand;
 use std::sync::Wait;

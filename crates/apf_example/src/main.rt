@@ -3,11 +3,11 @@
 #![tactic(auto)]
 
 ghost use Rattle.std.specs.Prelude.{◌≡◌, ◌<◌, length, IfOk};
-ghost use Rattle.apf_life_session.specs.Openings.{level_of};
+ghost use Rattle.apf_session.specs.LifeOpenings.{level_of};
 
-use apf_life::{Level, Naming, Report};
-use apf_life_session::{Answer, OpenFault, Opening, Request, Session};
+use apf_level::life::{Level, Naming, Report};
 use apf_model::{Ask, Config, Response};
+use apf_session::life::{Answer, OpenFault, Opening, Request, Session};
 use std::alloc::Global;
 use std::marker::Brand;
 use std::process::ExitCode;

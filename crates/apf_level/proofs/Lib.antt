@@ -11,3 +11,5 @@ pub mod Entered
 pub mod Following
 pub mod Listing
 pub mod Promising
+pub mod LifeAsks
+pub mod LifeHistories

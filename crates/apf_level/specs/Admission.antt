@@ -1,16 +1,13 @@
 -- What the calls of a request answer, by the steps that they make in its Pass's record.
-use Rattle.std.specs.Prelude.{◌≡◌, ◌≢◌, ◌⊎◌, ◌==◌, not, true, false, Some, None}
-use Rattle.apf_words.specs.Level.{Level}
-use Rattle.apf_words.specs.declared.decision.Decision.{Decision}
+use Rattle.std.specs.Prelude.{◌≡◌, ◌≢◌, true, false, Some, None}
 use Rattle.apf_words.specs.declared.decision.Decision.TheVariants as decisions
-use Rattle.apf_model.specs.declared.response.Response.TheVariants.{Queue, Reject}
 use Rattle.apf_gate.specs.declared.record.PassRecord.{PassRecord}
 use Rattle.apf_gate.specs.declared.record.State.TheVariants.{Fresh}
-use Rattle.apf_gate.specs.declared.answers.TryTake.TheVariants as take
 use Rattle.apf_gate.specs.Records.{told_own}
 use Rattle.apf_gate.specs.Tokens.{PassToken}
-use Rattle.apf_gate.specs.PassSteps.{PassLoadsDecision, PassSubtractsLevel}
-use Rattle.apf_gate.specs.PassCalls.{TriesToTake, Decides}
+use Rattle.apf_gate.specs.PassSteps.{PassLoadsDecision}
+use Rattle.apf_level.specs.Attempts.{Attempts, FindsBusy}
+use Rattle.apf_level.specs.declared.answers.Tried.TheVariants as tries
 use Rattle.apf_level.specs.declared.answers.TryAdmit.{TryAdmit}
 use Rattle.apf_level.specs.declared.answers.TryAdmit.TheVariants as tried
 use Rattle.apf_level.specs.declared.answers.Begin.{Begin}
@@ -79,56 +76,10 @@ IsNotExecuted (polled.Run token) = Unit {0}
 IsNotExecuted (polled.Over token decision) = decision ≢ decisions.Execute
 IsNotExecuted (polled.Still token) = Unit {0}
 
--- seats were taken and execute was written
-pub record TakesAndRuns (pass pass' : PassRecord) : Type 0 where
-  pub read : PassRecord
-  pub took : PassRecord
-  pub reads : PassLoadsDecision pass None read
-  pub takes : TriesToTake read take.Taken took
-  pub decides : Decides took decisions.Execute decisions.Execute pass'
-
--- seats were taken, the decision was lost, and the seats were given back, of a word that said this
-pub record TakesAndLoses (pass : PassRecord) (decision : Decision) (level : Level) (pass' : PassRecord) : Type 0 where
-  pub read : PassRecord
-  pub took : PassRecord
-  pub lost : PassRecord
-  pub reads : PassLoadsDecision pass None read
-  pub takes : TriesToTake read take.Taken took
-  pub decides : Decides took decisions.Execute decision lost
-  pub is_lost : decision ≢ decisions.Execute
-  pub gives_back : PassSubtractsLevel lost level pass'
-
--- the level was closed, and that was written
-pub record FindsClosed (pass : PassRecord) (decision : Decision) (pass' : PassRecord) : Type 0 where
-  pub read : PassRecord
-  pub found : PassRecord
-  pub reads : PassLoadsDecision pass None read
-  pub takes : TriesToTake read take.Closed found
-  pub decides : Decides found decisions.Closed decision pass'
-
--- there was no room on a level without queues, and that was written
-pub record FindsNoRoom (pass : PassRecord) (decision : Decision) (pass' : PassRecord) : Type 0 where
-  pub no_queues : pass.knows.shape.response ≡ Reject
-  pub read : PassRecord
-  pub found : PassRecord
-  pub reads : PassLoadsDecision pass None read
-  pub takes : TriesToTake read take.NoRoom found
-  pub decides : Decides found decisions.ConcurrencyLimit decision pass'
-
--- no seats were taken: the level word changed in between, or, on a level with queues, requests wait or there is no room
-pub record FindsBusy (pass pass' : PassRecord) : Type 0 where
-  pub read : PassRecord
-  pub reads : PassLoadsDecision pass None read
-  pub takes : TriesToTake read take.Raced pass' ⊎ ((pass.knows.shape.response ≡ Queue) × (TriesToTake read take.Waiters pass' ⊎ TriesToTake read take.NoRoom pass'))
-
 -- the steps of `try_admit`
 abbrev pub TriesToAdmit : PassRecord → TryAdmit → Type 0
-TriesToAdmit pass (tried.Run token) = TakesAndRuns pass token.pass
-TriesToAdmit pass (tried.Over token decision waiters) =
-    ((waiters ≡ false) × PassLoadsDecision pass (Some decision) token.pass)
-    ⊎ (((waiters ≡ false) × FindsClosed pass decision token.pass)
-    ⊎ (((waiters ≡ false) × FindsNoRoom pass decision token.pass)
-    ⊎ ((level : Level) × (waiters ≡ not (level.waiters == 0)) × TakesAndLoses pass decision level token.pass)))
+TriesToAdmit pass (tried.Run token) = Attempts pass tries.Run token
+TriesToAdmit pass (tried.Over token decision waiters) = Attempts pass (tries.Over decision waiters) token
 TriesToAdmit pass (tried.Busy token) = FindsBusy pass token.pass
 
 -- the answer says that the level was open

@@ -1,9 +1,8 @@
 -- What the calls of a Level ask and answer, where more than one call does.
-use Rattle.std.specs.Prelude.{◌≡◌, true, List, [], length, map, All, Result, IfErr, OnOk}
+use Rattle.std.specs.Prelude.{◌≡◌, List, [], length, map, All, Result, IfErr, OnOk}
 use Rattle.apf_history.specs.declared.events.Event.{Event}
 use Rattle.apf_model.specs.declared.config.Config.{Config}
 use Rattle.apf_model.specs.declared.config.Ask.{Ask}
-use Rattle.apf_gate.specs.declared.record.State.TheVariants.{Fresh}
 use Rattle.apf_gate.specs.Records.{new_desk}
 use Rattle.apf_gate.specs.Tokens.{GateId, PassToken, DeskToken, StationToken, pass_gate, station_gate}
 use Rattle.apf_gate.specs.Ends.{WordsView}
@@ -13,12 +12,10 @@ use Rattle.apf_book.specs.Laws.{decision_in}
 use Rattle.atomic_table.specs.Seated.{TableId}
 use Rattle.apf_stats.specs.Numbers.{BoardView, PassView}
 use Rattle.apf_level.specs.declared.answers.Begin.{Begin}
-use Rattle.apf_level.specs.declared.answers.Tried.{Tried}
 use Rattle.apf_level.specs.Levels.{LevelId, LevelView}
 use Rattle.apf_level.specs.Opening.{FaultBy, SettledBy}
-use Rattle.apf_level.specs.Tokens.{IsOf}
-use Rattle.apf_level.specs.Admission.{begun_pass, IsBegunTold, IsTriedTold, EnteredNow, SaysOpen}
-use Rattle.apf_level.specs.Attempts.{tried_of, StaysOut}
+use Rattle.apf_line.specs.Tokens.{IsOf}
+use Rattle.apf_level.specs.Admission.{begun_pass, IsBegunTold, EnteredNow}
 use Rattle.apf_level.specs.Reports.{Ended}
 
 -- the gate is the level's, a batch, as it was opened for these settings and these widths, with its Desk; and the level's ledger begins so
@@ -50,18 +47,6 @@ pub record IsOpened {P S : Type 0} (own : GateId) (given : P) (handed : S) (leve
 pub record IsJudged {A : Type 0} (config : Config) (asks : List Ask) (made : Result A BookFault) : Type 0 where
   pub settings : OnOk made (SettledBy config.limit_response config asks)
   pub fault : IfErr made (FaultBy config.limit_response config asks)
-
--- the Pass is of the level and fresh
-pub record IsFreshPass (k : LevelId) (token : PassToken) : Type 0 where
-  pub own : pass_gate token ≡ k.gate
-  pub fresh : token.pass.state ≡ Fresh
-
--- what an attempt answers and leaves, beside its steps: the Pass of the same request, which was told what is answered. One that saw the level closed finds it closed, and nobody enters
-pub record AfterAttempt (token : PassToken) (answer : Tried) (left : PassToken) : Type 0 where
-  pub same : IsOf token left
-  pub told : IsTriedTold (tried_of answer left)
-  pub stays_closed : token.pass.knows.saw_closed ≡ true → ¬ SaysOpen (tried_of answer left)
-  pub outside : StaysOut token.pass answer left
 
 -- what an arrival leaves and answers: the Pass of the same request, which was told what is answered, and has whether its request entered
 pub record AfterBegin (token : PassToken) (answer : Begin) : Type 0 where

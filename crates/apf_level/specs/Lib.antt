@@ -2,8 +2,8 @@ pub mod Levels
 pub mod Nobody
 pub mod Opening
 pub mod Tokens
-pub mod Admission
 pub mod Attempts
+pub mod Admission
 pub mod Arrivals
 pub mod Shown
 pub mod Copies
@@ -16,3 +16,11 @@ pub mod UnderLock
 pub mod Reports
 pub mod LevelCalls
 pub mod Promises
+pub mod LifeNobody
+pub mod LifeAdmission
+pub mod LifeArrivals
+pub mod LifeReleases
+pub mod LifeSections
+pub mod LifeLocked
+pub mod LifeInPlace
+pub mod LifeCalls

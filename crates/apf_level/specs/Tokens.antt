@@ -6,7 +6,7 @@ use Rattle.apf_model.specs.declared.moves.Stage.TheVariants.{Stands}
 use Rattle.apf_gate.specs.declared.record.State.TheVariants.{Took, InLine}
 use Rattle.apf_gate.specs.Records.{told_own}
 use Rattle.apf_gate.specs.Traces.{world_of}
-use Rattle.apf_gate.specs.Tokens.{PassToken, pass_gate}
+use Rattle.apf_gate.specs.Tokens.{PassToken}
 use Rattle.apf_gate.specs.Ends.{IsBack}
 
 -- it is in line, and its request entered
@@ -27,8 +27,3 @@ pub record IsDone (token : PassToken) : Type 0 where
   pub back : IsBack token
   pub told : told_own token.pass ≢ None
   pub small : token.pass.number < max_requests
-
--- the same request at the same gate
-pub record IsOf (token token' : PassToken) : Type 0 where
-  pub gate : pass_gate token' ≡ pass_gate token
-  pub number : token'.pass.number ≡ token.pass.number

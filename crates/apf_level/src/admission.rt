@@ -7,20 +7,19 @@ ghost use Rattle.apf_words.specs.declared.decision.Decision.TheVariants.{Execute
 ghost use Rattle.apf_gate.specs.Records.{told_own};
 ghost use Rattle.apf_gate.specs.PassSteps.{PassSubtractsLevel};
 ghost use Rattle.apf_gate.specs.Tokens.{pass_gate};
-ghost use Rattle.apf_level.specs.Tokens.{IsOf, IsRunning, IsDone};
+ghost use Rattle.apf_line.specs.Tokens.{IsOf};
+ghost use Rattle.apf_level.specs.Tokens.{IsRunning, IsDone};
 ghost use Rattle.apf_level.specs.Admission.{tried_pass, IsTriedTold, TriesToAdmit, SaysOpen};
-ghost use Rattle.apf_level.specs.Attempts.{tried_of, TakesOrDecides, IsKeptBy};
-ghost use Rattle.apf_level.specs.LevelCalls.{IsFreshPass, AfterAttempt};
+ghost use Rattle.apf_level.specs.Attempts.{IsFreshPass, Attempts, TakesOrDecides, IsKeptInBatch, AfterAttempt};
 ghost use Rattle.apf_level.specs.Owing.{owed_by};
 
 use crate::answers::{Tried, TryAdmit};
+use crate::attempts;
 use crate::level::Level;
 use crate::naming::Naming;
 use crate::owing::{Owes, Owing, owes_if};
-use crate::shared::Shared;
 use crate::tokens::{Done, Running};
-use apf_gate::{Pass, TryTake};
-use apf_words::Decision;
+use apf_gate::Pass;
 
 impl<K: Naming> Level<K> {
     /// Admits the request, if nobody waits and it fits. It takes no lock.
@@ -29,13 +28,14 @@ impl<K: Naming> Level<K> {
     /// showed room an exchange; and an exchange of the decision word, unless it answers busy. Seats that were
     /// taken while the request was cancelled are given back.
     pub fn try_admit(&self, mut pass: Pass) -> TryAdmit
-        requires { IsFreshPass K.level pass }
+        requires { IsFreshPass K.level.gate pass }
         ensures same { IsOf pass (tried_pass result) }
         ensures told { IsTriedTold result }
         ensures steps { TriesToAdmit pass.pass result }
         ensures stays_closed { pass.pass.knows.saw_closed ≡ true → ¬ SaysOpen result }
     {
-        match self.try_once(&mut pass) {
+        let _request = self.number(&pass);
+        match attempts::attempt(&self.gate, self.shared.has_queues(), &mut pass) {
             Tried::Run => TryAdmit::Run(Running { pass }),
             Tried::Over(decision, waiting) => TryAdmit::Over(Done { pass }, decision, waiting),
             Tried::Blocked | Tried::Raced => TryAdmit::Busy(pass),
@@ -60,79 +60,31 @@ impl<K: Naming> Level<K> {
     /// back, a dispatch is owed.
     #[inline]
     pub fn attempt(&self, pass: &mut Pass) -> (Tried, Owes<K>)
-        requires { IsFreshPass K.level pass.old }
-        ensures kept { IsKeptBy result.0 pass.new }
+        requires { IsFreshPass K.level.gate pass.old }
+        ensures kept { IsKeptInBatch result.0 pass.new }
         ensures after { AfterAttempt pass.old result.0 pass.new }
-        ensures steps { TriesToAdmit pass.old.pass (tried_of result.0 pass.new) }
+        ensures steps { Attempts pass.old.pass result.0 pass.new }
         ensures never_entered { pass.old.pass.entered ≡ false }
         ensures owes { result.1 ≡ owed_by result.0 }
     {
-        let tried = self.try_once(pass);
-        (tried, owes_of(tried))
-    }
-
-    // The same, with whether a dispatch is owed in the answer alone.
-    #[inline]
-    fn try_once(&self, pass: &mut Pass) -> Tried
-        requires { IsFreshPass K.level pass.old }
-        ensures kept { IsKeptBy result pass.new }
-        ensures after { AfterAttempt pass.old result pass.new }
-        ensures steps { TriesToAdmit pass.old.pass (tried_of result pass.new) }
-        ensures never_entered { pass.old.pass.entered ≡ false }
-    {
         let _request = self.number(pass);
-        if let Some(decision) = self.gate.told(pass) {
-            return Tried::Over(decision, false);
-        }
-        self.take_or_decide(pass)
+        let tried = attempts::attempt(&self.gate, self.shared.has_queues(), pass);
+        (tried, owes_of(tried))
     }
 
     // Takes the seats, if nobody waits and they fit, and decides: what `attempt` does once it read that
     // nothing is decided.
     #[inline]
     pub(crate) fn take(&self, pass: &mut Pass) -> (Tried, Owes<K>)
-        requires { IsFreshPass K.level pass.old }
-        ensures kept { IsKeptBy result.0 pass.new }
+        requires { IsFreshPass K.level.gate pass.old }
+        ensures kept { IsKeptInBatch result.0 pass.new }
         ensures after { AfterAttempt pass.old result.0 pass.new }
         ensures steps { TakesOrDecides pass.old.pass result.0 pass.new }
         ensures owes { result.1 ≡ owed_by result.0 }
     {
-        let tried = self.take_or_decide(pass);
-        (tried, owes_of(tried))
-    }
-
-    // The same, with whether a dispatch is owed in the answer alone.
-    #[inline]
-    fn take_or_decide(&self, pass: &mut Pass) -> Tried
-        requires { IsFreshPass K.level pass.old }
-        ensures kept { IsKeptBy result pass.new }
-        ensures after { AfterAttempt pass.old result pass.new }
-        ensures steps { TakesOrDecides pass.old.pass result pass.new }
-    {
         let _request = self.number(pass);
-        match self.gate.try_take(pass) {
-            TryTake::Taken => {
-                let decision = self.gate.decide(pass, Decision::Execute);
-                if decision == Decision::Execute {
-                    return Tried::Run;
-                }
-                let waiting = self.gate.release(pass);
-                Tried::Over(decision, waiting)
-            }
-            TryTake::Closed => {
-                let decision = self.gate.decide(pass, Decision::Closed);
-                Tried::Over(decision, false)
-            }
-            TryTake::Waiters => Tried::Blocked,
-            TryTake::NoRoom => match &self.shared {
-                Shared::Queued(_queued) => Tried::Blocked,
-                Shared::Unqueued(_unqueued) => {
-                    let decision = self.gate.decide(pass, Decision::ConcurrencyLimit);
-                    Tried::Over(decision, false)
-                }
-            },
-            TryTake::Raced => Tried::Raced,
-        }
+        let tried = attempts::take(&self.gate, self.shared.has_queues(), pass);
+        (tried, owes_of(tried))
     }
 
     /// Gives the request's seats back, by one step on the level word. Where requests waited then, the

@@ -4,11 +4,13 @@ ghost use Rattle.std.specs.Prelude.{◌≡◌, Option};
 ghost use Rattle.apf_history.specs.declared.events.Event.{Event};
 ghost use Rattle.apf_model.specs.declared.response.Response.TheVariants.{Queue};
 ghost use Rattle.apf_gate.specs.Tokens.{pass_gate};
-ghost use Rattle.apf_level.specs.Tokens.{IsOf, IsInLine};
+ghost use Rattle.apf_line.specs.Tokens.{IsOf};
+ghost use Rattle.apf_level.specs.Tokens.{IsInLine};
 ghost use Rattle.apf_level.specs.InPlace.{begin_of, poll_of, IsLeftBy, SaysWaits, IsDecided};
 ghost use Rattle.apf_level.specs.Admission.{polled_pass, admitted_pass, IsAdmittedTold, SaysWaiting, Polls, IsNotExecuted};
 ghost use Rattle.apf_level.specs.Arrivals.{Logs};
-ghost use Rattle.apf_level.specs.LevelCalls.{IsFreshPass, AfterBegin};
+ghost use Rattle.apf_level.specs.Attempts.{IsFreshPass};
+ghost use Rattle.apf_level.specs.LevelCalls.{AfterBegin};
 
 use crate::answers::{Admit, Begin, Begun, Enqueued, Poll, Tried};
 use crate::level::Level;
@@ -32,7 +34,7 @@ impl<K: Naming> Level<K> {
     /// It takes the lock only where requests wait or it does not fit, or to dispatch where its decision was
     /// lost and requests waited when its seats were given back.
     pub fn begin<R: Wait>(&self, rt: &R, mut pass: Pass) -> Begin
-        requires { IsFreshPass K.level pass }
+        requires { IsFreshPass K.level.gate pass }
         ensures after { AfterBegin pass result }
         ensures queues { SaysWaiting result → self.now.gate.shape.response ≡ Queue }
     {
@@ -42,7 +44,7 @@ impl<K: Naming> Level<K> {
     /// As `begin`. Answers also the event that the log got by the arrival: the request's Enter or Full, which
     /// name its queue, or none, of a request that took its seats or was decided without a queue.
     pub fn begin_with_event<R: Wait>(&self, rt: &R, mut pass: Pass) -> (Begin, Option<Event>)
-        requires { IsFreshPass K.level pass }
+        requires { IsFreshPass K.level.gate pass }
         ensures after { AfterBegin pass result.0 }
         ensures queues { SaysWaiting result.0 → self.now.gate.shape.response ≡ Queue }
         ensures logs { Logs K.level pass.pass.number result.0 result.1 }
@@ -70,7 +72,7 @@ impl<K: Naming> Level<K> {
     /// The request arrives, and its caller waits until it is decided. After some readings it sleeps; a
     /// dispatch or a cancel by any thread wakes it.
     pub fn admit<R: Wait>(&self, rt: &R, mut pass: Pass) -> Admit
-        requires { IsFreshPass K.level pass }
+        requires { IsFreshPass K.level.gate pass }
         ensures same { IsOf pass (admitted_pass result) }
         ensures told { IsAdmittedTold result }
     {
@@ -88,7 +90,7 @@ impl<K: Naming> Level<K> {
     /// lost and requests waited when its seats were given back.
     #[inline]
     pub fn arrive<R: Wait>(&self, rt: &R, pass: &mut Pass) -> Begun
-        requires { IsFreshPass K.level pass.old }
+        requires { IsFreshPass K.level.gate pass.old }
         ensures left { IsLeftBy result pass.new }
         ensures after { AfterBegin pass.old (begin_of result pass.new) }
         ensures queues { SaysWaits result → self.now.gate.shape.response ≡ Queue }
@@ -102,7 +104,7 @@ impl<K: Naming> Level<K> {
     /// queue, or none, of a request that took its seats or was decided without a queue.
     #[inline(always)]
     pub fn arrive_with_event<R: Wait>(&self, rt: &R, pass: &mut Pass) -> (Begun, Option<Event>)
-        requires { IsFreshPass K.level pass.old }
+        requires { IsFreshPass K.level.gate pass.old }
         ensures left { IsLeftBy result.0 pass.new }
         ensures after { AfterBegin pass.old (begin_of result.0 pass.new) }
         ensures queues { SaysWaits result.0 → self.now.gate.shape.response ≡ Queue }
@@ -120,7 +122,7 @@ impl<K: Naming> Level<K> {
     // The request, which did not take its seats at once, arrives: it tries again, until it loses no exchange.
     #[inline(never)]
     fn arrive_late<R: Wait>(&self, rt: &R, pass: &mut Pass) -> (Begun, Option<Event>)
-        requires { IsFreshPass K.level pass.old }
+        requires { IsFreshPass K.level.gate pass.old }
         ensures left { IsLeftBy result.0 pass.new }
         ensures after { AfterBegin pass.old (begin_of result.0 pass.new) }
         ensures queues { SaysWaits result.0 → self.now.gate.shape.response ≡ Queue }
@@ -153,7 +155,7 @@ impl<K: Naming> Level<K> {
         queued: &QueuedLock<K>,
         pass: &mut Pass,
     ) -> (Begun, Option<Event>)
-        requires { IsFreshPass K.level pass.old }
+        requires { IsFreshPass K.level.gate pass.old }
         ensures left { IsLeftBy result.0 pass.new }
         ensures after { AfterBegin pass.old (begin_of result.0 pass.new) }
         ensures logs { Logs K.level pass.old.pass.number (begin_of result.0 pass.new) result.1 }
@@ -201,7 +203,7 @@ impl<K: Naming> Level<K> {
     /// The request arrives, and its caller waits until it is decided: it executes, or is over. After some
     /// readings the caller sleeps; a dispatch or a cancel by any thread wakes it. The Pass stays in its place.
     pub fn arrive_and_wait<R: Wait>(&self, rt: &R, pass: &mut Pass) -> Begun
-        requires { IsFreshPass K.level pass.old }
+        requires { IsFreshPass K.level.gate pass.old }
         ensures left { IsLeftBy result pass.new }
         ensures same { IsOf pass.old pass.new }
         ensures told { IsDecided result pass.new }

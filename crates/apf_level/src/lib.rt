@@ -7,20 +7,24 @@
 //! - `queued`: what stands under the lock of a level with queues. `unqueued`: of one without. `shared`: the lock of either.
 //! - `owing`: what is owed once room was made, or a request was cancelled.
 //! - `level`: the level, and how it begins.
-//! - `admission`: the steps of a request outside the lock. `arriving`: those that may take it.
+//! - `attempts`: how a request takes its seats outside the lock, at the gate of any level. `admission`: the same at a level,
+//!   and how it gives them back. `arriving`: the steps that may take the lock.
 //! - `stations`: the calls of a Station. `locked`: those that take the lock.
 //! - `hearing`, `finish`, `report`, `end`: how a level ends, and what it tells then.
 //! - `laws`: what is true of every report.
+//! - `life`: a level for a server's whole life, whose slots are used again.
 #![tactic(auto)]
 
 mod admission;
 mod answers;
 mod arriving;
+mod attempts;
 mod end;
 mod finish;
 mod hearing;
 mod laws;
 mod level;
+pub mod life;
 mod locked;
 mod naming;
 mod owing;

@@ -11,7 +11,7 @@ ghost use Rattle.apf_book.specs.BookCalls.{Dispatches};
 ghost use Rattle.apf_book.specs.BookResults.{SameBook};
 ghost use Rattle.apf_book.specs.Stopped.{IsStopped};
 ghost use Rattle.apf_level.specs.Levels.{IsBookOf};
-ghost use Rattle.apf_level.specs.Tokens.{IsOf};
+ghost use Rattle.apf_line.specs.Tokens.{IsOf};
 ghost use Rattle.apf_level.specs.Arrivals.{EnqueuedAs};
 ghost use Rattle.apf_level.specs.Copies.{Copies, IsCopied};
 ghost use Rattle.apf_level.specs.Locked.{StrikesAndServes};

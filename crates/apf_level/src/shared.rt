@@ -1,5 +1,7 @@
 //! What a level's calls do under its lock, by its response.
 
+ghost use Rattle.apf_level.specs.Attempts.{HasQueuesIf};
+
 use crate::naming::Naming;
 use crate::queued::QueuedLock;
 use crate::unqueued::UnqueuedLock;
@@ -13,6 +15,16 @@ pub enum Shared<K: Naming> {
 }
 
 impl<K: Naming> Shared<K> {
+    // Whether the level has queues.
+    pub(crate) fn has_queues(&self) -> bool
+        ensures { HasQueuesIf result K.level.gate.shape.response }
+    {
+        match self {
+            Shared::Queued(_queued) => true,
+            Shared::Unqueued(_unqueued) => false,
+        }
+    }
+
     /// Somebody may sleep from now on until the request is decided.
     pub fn will_sleep<R: Wait>(&self, rt: &R, request: u32) {
         match self {

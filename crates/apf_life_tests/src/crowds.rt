@@ -1,14 +1,14 @@
 //! Many requests over eight slots, by four threads, with cancels by tickets that are late or not.
 
 ghost use Rattle.std.specs.Prelude.{◌≡◌, length};
-ghost use Rattle.apf_life_session.specs.Openings.{level_of};
+ghost use Rattle.apf_session.specs.LifeOpenings.{level_of};
 
 use crate::asserts::is;
 use apf_gate::{Cancel, Ticket};
-use apf_life::{Level, Naming, Report};
-use apf_life_session::{Answer, Opening, Operator, Request, Session};
+use apf_level::life::{Level, Naming, Report};
 use apf_model::{Ask, Config, Response};
 use apf_rounds::MOST_TURNS;
+use apf_session::life::{Answer, Opening, Operator, Request, Session};
 use apf_words::Decision;
 use std::alloc::Global;
 use std::marker::Brand;
@@ -258,7 +258,7 @@ fn live<R: Threads + Wait + Abort + Sync>(rt: &R, alloc: Global, board: &Board) 
         queue_length_limit: 10,
         limit_response: Response::Queue,
     };
-    let Ok(opening) = Opening::new(alloc, &config, SLOTS, 1) else {
+    let Ok(opening) = Opening::new(alloc, &config, SLOTS as usize, 1) else {
         panic!(rt; "opens")
     };
     play::<Brand, R>(rt, alloc, board, opening)

@@ -2,16 +2,16 @@
 //! whole history, of all requests that ever were.
 
 ghost use Rattle.std.specs.Prelude.{◌≡◌, ◌<◌, length};
-ghost use Rattle.apf_life_session.specs.Openings.{level_of};
+ghost use Rattle.apf_session.specs.LifeOpenings.{level_of};
 
 use crate::asserts::is;
 use crate::past::{HAND, LENGTH, Past, QUEUES};
 use apf_book::LifeEvent;
 use apf_flow::Dealer;
 use apf_gate::{Cancel, Close, Ticket};
-use apf_life::{Naming, Report};
-use apf_life_session::{Answer, Opening, Place, Session};
+use apf_level::life::{Naming, Report};
 use apf_model::{Ask, Config, Event, Response};
+use apf_session::life::{Answer, Opening, Place, Session};
 use apf_words::Decision;
 use std::alloc::Global;
 use std::marker::Brand;
@@ -225,7 +225,7 @@ fn run<R: Wait + Abort>(rt: &R, alloc: Global, seed: u32, past: &mut Past) -> Re
         queue_length_limit: LENGTH,
         limit_response: Response::Queue,
     };
-    let Ok(opening) = Opening::new(alloc, &config, SLOTS, 1) else {
+    let Ok(opening) = Opening::new(alloc, &config, SLOTS as usize, 1) else {
         panic!(rt; "opens")
     };
     play::<Brand, R>(rt, alloc, opening, seed, past)

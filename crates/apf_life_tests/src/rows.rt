@@ -3,14 +3,14 @@
 ghost use Rattle.std.specs.Prelude.{◌≡◌, ◌<◌, ◌≤◌, length};
 ghost use Rattle.apf_words.specs.Limits.{max_width};
 ghost use Rattle.apf_gate.specs.Slots.{IsTicket};
-ghost use Rattle.apf_life_session.specs.Openings.{level_of, level_settling};
+ghost use Rattle.apf_session.specs.LifeOpenings.{level_of, level_settling};
 
 use crate::asserts::is;
 use apf_book::LifeEvent;
 use apf_gate::{Cancel, Close, Ticket};
-use apf_life::{Naming, Report};
-use apf_life_session::{Answer, Opening, Place, Session, Settling};
+use apf_level::life::{Naming, Report};
 use apf_model::{Ask, Config, Response};
+use apf_session::life::{Answer, Opening, Place, Session, Settling};
 use apf_words::Decision;
 use std::alloc::Global;
 use std::marker::Brand;

@@ -5,14 +5,14 @@
 //! is refused it says so on standard error, and ends with status 3.
 
 ghost use Rattle.std.specs.Prelude.{◌≡◌, ◌<◌};
-ghost use Rattle.apf_life_session.specs.Openings.{level_of};
+ghost use Rattle.apf_session.specs.LifeOpenings.{level_of};
 
 use crate::NO_MEMORY;
 use apf_book::{LifeEvent, LifeStats};
 use apf_gate::{Cancel, Close, Counts, Ticket};
-use apf_life::Naming;
-use apf_life_session::{Answer, OpenFault, Opening, Session};
+use apf_level::life::Naming;
 use apf_model::{Ask, Config, Response};
+use apf_session::life::{Answer, OpenFault, Opening, Session};
 use std::alloc::{AllocError, Global};
 use std::io;
 use std::marker::Brand;

@@ -2,13 +2,13 @@
 //! that of many.
 
 ghost use Rattle.std.specs.Prelude.{◌≡◌};
-ghost use Rattle.apf_life_session.specs.Openings.{level_of};
+ghost use Rattle.apf_session.specs.LifeOpenings.{level_of};
 
 use crate::NO_MEMORY;
 use apf_gate::Counts;
-use apf_life::Naming;
-use apf_life_session::{Answer, OpenFault, Opening, Session};
+use apf_level::life::Naming;
 use apf_model::{Ask, Config, Response};
+use apf_session::life::{Answer, OpenFault, Opening, Session};
 use std::alloc::Global;
 use std::io;
 use std::marker::Brand;
@@ -85,7 +85,7 @@ fn open<R: Wait>(rt: &R, alloc: Global, rounds: u64) -> Result<Counts, OpenFault
         queue_length_limit: 50,
         limit_response: Response::Queue,
     };
-    let opening = Opening::new(alloc, &config, SLOTS, 0)?;
+    let opening = Opening::new(alloc, &config, SLOTS as usize, 0)?;
     run_named::<Brand, R>(rt, alloc, opening, rounds)
 }
 

@@ -1,6 +1,6 @@
 -- What the end of a level says of the requests that its workers ran.
 use Rattle.std.proofs.Common.{◌≡◌, ◌≢◌, ℕ, ◌+◌, ◌*◌, ◌/◌, ◌%◌, ◌<◌, ◌≤◌, true, false, zero, suc, List, length, All, refl, sym, ap, ◌∙◌, subst, inr, arith}
-use Rattle.std.specs.Prelude.{Any, Option, Some, None, slice_get, slice_index_or}
+use Rattle.std.specs.Prelude.{Option, Some, None, slice_get, slice_index_or}
 use Rattle.std.proofs.lemmas.Option.{slice_get-get_or}
 use Rattle.std.proofs.lemmas.Nat.{div_below, mod_below}
 use Rattle.apf_words.specs.declared.decision.Decision.{Decision}

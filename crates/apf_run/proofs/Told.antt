@@ -1,5 +1,5 @@
 -- What the end of a level says of the requests that its workers ran.
-use Rattle.std.proofs.Common.{◌≡◌, ℕ, ◌<◌, true, List, map, length, All, sym, ap, ◌∙◌, subst, arith}
+use Rattle.std.proofs.Common.{◌≡◌, ℕ, ◌<◌, true, List, map, length, sym, ap, ◌∙◌, subst, arith}
 use Rattle.std.specs.Prelude.{Some, slice_get, reverse}
 use Rattle.std.proofs.lemmas.Option.{slice_get_within, slice_get-get_or}
 use Rattle.apf_words.specs.declared.decision.Decision.TheVariants.{Cancelled}

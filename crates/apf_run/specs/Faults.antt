@@ -24,8 +24,8 @@ IsRunFault config requests workers (run.Level fault) = IsLevelFault config (asks
 IsRunFault config requests workers (run.Worker k) = CanRun config requests workers × (k < workers)
 IsRunFault config requests workers run.NoMemory = Unit {0}
 
--- what a fault of a replay is told as by a run
-abbrev pub told_of_replay : OpenFault → RunFault
-told_of_replay (faults.Gate fault) = run.Gate fault
-told_of_replay (faults.Level fault) = run.Level fault
-told_of_replay faults.NoMemory = run.NoMemory
+-- what a fault of an opening is told as by a run
+abbrev pub told_of_opening : OpenFault → RunFault
+told_of_opening (faults.Gate fault) = run.Gate fault
+told_of_opening (faults.Level fault) = run.Level fault
+told_of_opening faults.NoMemory = run.NoMemory

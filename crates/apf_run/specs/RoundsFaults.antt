@@ -1,10 +1,8 @@
 -- Why requests are not run in rounds.
 use Rattle.std.specs.Prelude.{ℕ, ◌<◌}
 use Rattle.apf_model.specs.declared.config.Config.{Config}
-use Rattle.apf_life.specs.Calls.{SettledBy}
-use Rattle.apf_life_session.specs.declared.fault.OpenFault.{OpenFault}
-use Rattle.apf_life_session.specs.declared.fault.OpenFault.TheVariants as opening
-use Rattle.apf_life_session.specs.Openings.{CanOpenGate, IsGateFault, IsLevelFault}
+use Rattle.apf_level.specs.LifeCalls.{SettledBy}
+use Rattle.apf_session.specs.LifeOpenings.{CanOpenGate, IsGateFault, IsLevelFault}
 use Rattle.apf_run.specs.declared.fault.RunFault.{RunFault}
 use Rattle.apf_run.specs.declared.fault.RunFault.TheVariants as run
 
@@ -19,9 +17,3 @@ IsRoundsFault config slots workers (run.Gate fault) = IsGateFault config slots w
 IsRoundsFault config slots workers (run.Level fault) = IsLevelFault config slots workers fault
 IsRoundsFault config slots workers (run.Worker k) = CanRunRounds config slots workers × (k < workers)
 IsRoundsFault config slots workers run.NoMemory = Unit {0}
-
--- what a fault of an opening is told as
-abbrev pub told_of_opening : OpenFault → RunFault
-told_of_opening (opening.Gate fault) = run.Gate fault
-told_of_opening (opening.Level fault) = run.Level fault
-told_of_opening opening.NoMemory = run.NoMemory

@@ -18,10 +18,6 @@ pub record Load : Type 0 where
 abbrev pub IsInRound : ℕ → PassToken → Type 0
 IsInRound n t = round_of t.pass.number ≡ n
 
--- a slot of this gate, of which no request came
-abbrev pub IsFirstOf : GateId → PassToken → Type 0
-IsFirstOf gate t = (pass_gate t ≡ gate) × IsInRound 0 t
-
 -- a Station that saw the level closed did so, and was told of whom it was told
 pub record KeepsKnowing (s s' : StationToken) : Type 0 where
   pub closed : s.station.knows.saw_closed ≡ true → s'.station.knows.saw_closed ≡ true

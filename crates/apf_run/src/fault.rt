@@ -3,8 +3,7 @@
 ghost use Rattle.std.specs.Prelude.{◌≡◌};
 ghost use Rattle.apf_session.specs.Openings.{told_of_level};
 ghost use Rattle.apf_run.specs.declared.fault.RunFault.TheVariants as run;
-ghost use Rattle.apf_run.specs.Faults.{told_of_replay};
-ghost use Rattle.apf_run.specs.RoundsFaults.{told_of_opening};
+ghost use Rattle.apf_run.specs.Faults.{told_of_opening};
 
 use apf_book::BookFault;
 use apf_gate::GateFault;
@@ -32,35 +31,23 @@ pub enum RunFault {
     Level(BookFault),
 }
 
-impl From<ReplayFault> for RunFault {
-    ghost from_gives = { λ fault told. told ≡ told_of_replay fault };
-
-    fn from(fault: ReplayFault) -> Self {
-        match fault {
-            ReplayFault::Gate(fault) => Self::Gate(fault),
-            ReplayFault::Level(fault) => Self::Level(fault),
-            ReplayFault::NoMemory => Self::NoMemory,
-        }
-    }
-}
-
-impl From<apf_life_session::OpenFault> for RunFault {
+impl From<OpenFault> for RunFault {
     ghost from_gives = { λ fault told. told ≡ told_of_opening fault };
 
-    fn from(fault: apf_life_session::OpenFault) -> Self {
+    fn from(fault: OpenFault) -> Self {
         match fault {
-            apf_life_session::OpenFault::Gate(fault) => Self::Gate(fault),
-            apf_life_session::OpenFault::Level(fault) => Self::Level(fault),
-            apf_life_session::OpenFault::NoMemory => Self::NoMemory,
+            OpenFault::Gate(fault) => Self::Gate(fault),
+            OpenFault::Level(fault) => Self::Level(fault),
+            OpenFault::NoMemory => Self::NoMemory,
         }
     }
 }
 
 impl From<BookFault> for RunFault {
-    ghost from_gives = { λ fault told. told ≡ told_of_replay (told_of_level fault) };
+    ghost from_gives = { λ fault told. told ≡ told_of_opening (told_of_level fault) };
 
     fn from(fault: BookFault) -> Self {
-        ReplayFault::from(fault).into()
+        OpenFault::from(fault).into()
     }
 }
 

@@ -1,6 +1,6 @@
 //! Runs requests by workers, in rounds: each slot of a level is given again and again, to the same request.
 //!
-//! - `opening`: the gate of a run. `plan`: which level, which requests and how many rounds a run is of.
+//! - `plan`: which level, which requests and how many rounds a run is of.
 //! - `newest`: which request holds a slot now, as its worker notes it.
 //! - `operator`: a worker's Station, and `worker` a worker with its share of the slots. `crew`: all workers,
 //!   dealt out, started and joined. `finished`: what they gave back. `watch`: who looks at a run meanwhile.
@@ -10,14 +10,13 @@ mod book;
 mod crew;
 mod finished;
 mod newest;
-mod opening;
 mod operator;
 mod plan;
 mod running;
 mod watch;
 mod worker;
 
-pub use apf_life::{Executing, Report};
+pub use apf_level::life::{Executing, Report};
 pub use book::write_book;
 pub use running::run_rounds;
 pub use watch::{Nobody, Watch};

@@ -1,7 +1,5 @@
 -- What the end of a session tells of its requests and operators.
-use Rattle.std.proofs.Common.{◌≡◌, ◌≢◌, ℕ, ◌-◌, ◌<◌, inl, inr, List, length, get_or, set, length-set, get_or-set_same, get_or-set_other, Option, None, All, sym, ap, ◌∙◌, refl, arith}
-use Rattle.std.proofs.lemmas.Bool.{cases_eq}
-use Rattle.std.proofs.lemmas.List.{get_or_default}
+use Rattle.std.proofs.Common.{◌≡◌, ◌≢◌, ℕ, ◌-◌, ◌<◌, List, length, get_or, Option, None, All, sym, ap, ◌∙◌, arith}
 use Rattle.std.specs.Prelude.{Result, Ok, Err, IfOk, reverse, slice_get}
 use Rattle.std.specs.declared.alloc.AllocError.{AllocError}
 use Rattle.apf_words.specs.declared.decision.Decision.{Decision}
@@ -13,24 +11,8 @@ use Rattle.apf_book.specs.LedgerKept.{AreStats}
 use Rattle.apf_level.specs.declared.report.Report.{Report}
 use Rattle.apf_level.specs.Levels.{LevelId}
 use Rattle.apf_level.specs.Reports.{AreSums, Ended}
-use Rattle.apf_session.specs.Ends.{FirstCancels, KeepsOrder, SessionEnds}
-
--- the first of them made steps
-pub first_steps : (old : List StationToken) (x r : StationToken) → 0 < length old → x.station.number ≡ (get_or old 0 r).station.number → KeepsOrder old (set old 0 x)
-first_steps old x r some same = record {
-  count = length-set old 0 x;
-  numbers = λ i d. elim (cases_eq i 0) [
-    | inl is ↦ ap (λ (j : ℕ). (get_or (set old 0 x) j d).station.number) is
-        ∙ (ap (λ (y : StationToken). y.station.number) (get_or-set_same old 0 x d some)
-        ∙ (same ∙ (ap (λ (y : StationToken). y.station.number) (get_or_default old 0 r d some) ∙ ap (λ (j : ℕ). (get_or old j d).station.number) (sym is))))
-    | inr ne ↦ ap (λ (y : StationToken). y.station.number) (get_or-set_other old 0 i x d ne)
-  ];
-  others = λ i d ne. get_or-set_other old 0 i x d ne;
-}
-
--- none of them made steps
-pub none_steps : (old : List StationToken) → KeepsOrder old old
-none_steps old = record { count = refl; numbers = λ i d. refl; others = λ i d ne. refl }
+use Rattle.apf_session.specs.Operators.{KeepsOrder}
+use Rattle.apf_session.specs.Ends.{FirstCancels, SessionEnds}
 
 -- what the Passes were told is decided, so what the requests were told before is
 pub told_the_same : (old now : List RequestView) (passes : List PassToken) (decision : ℕ → Option Decision) (e : PassToken)

@@ -1,9 +1,8 @@
 pub mod Opened
-pub mod Numbered
 pub mod Staying
 pub mod Finishing
 pub mod Leaving
-pub mod Cancelling
+pub mod Attempts
 pub mod Concluding
 pub mod Beginning
 pub mod Following

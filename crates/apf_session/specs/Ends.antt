@@ -1,5 +1,6 @@
 -- What the end of a session tells.
-use Rattle.std.specs.Prelude.{◌≡◌, ◌≢◌, ℕ, ◌<◌, Bool, true, false, if◌then◌else◌, List, [], ◌∷◌, length, reverse, slice_get, slice_index_or, None}
+use Rattle.std.specs.Prelude.{◌≡◌, ◌≢◌, ℕ, ◌<◌, Bool, true, false, List, length, map, filter, reverse, slice_get, slice_index_or, None}
+use Rattle.std.specs.List.{FoldsTo}
 use Rattle.apf_words.specs.declared.decision.Decision.{Decision}
 use Rattle.apf_model.specs.Outcome.{stats_of}
 use Rattle.apf_gate.specs.declared.record.StationRecord.{StationRecord}
@@ -11,6 +12,7 @@ use Rattle.apf_level.specs.Levels.{LevelId}
 use Rattle.apf_level.specs.Reports.{AreSums, Ended}
 use Rattle.apf_session.specs.declared.answer.Place.{Place}
 use Rattle.apf_session.specs.declared.answer.Place.TheVariants as places
+use Rattle.apf_session.specs.Operators.{KeepsOrder, FirstMakes}
 use Rattle.apf_session.specs.Requests.{RequestView, place_of, told_by}
 
 -- the report is that of this level, whose Passes and Stations were all handed in
@@ -27,12 +29,6 @@ abbrev pub TellsTheSame : List RequestView → Report → Type 0
 TellsTheSame requests r = (i : ℕ) (d : RequestView) → i < length requests → told_by (slice_index_or requests i d).token ≢ None
     → slice_get r.decisions.items (slice_index_or requests i d).number ≡ told_by (slice_index_or requests i d).token
 
--- the Stations that were handed in are these operators', in their order; the first may have made steps since
-pub record KeepsOrder (operators stations : List StationToken) : Type 0 where
-  pub count : length stations ≡ length operators
-  pub numbers : (i : ℕ) (d : StationToken) → (slice_index_or stations i d).station.number ≡ (slice_index_or operators i d).station.number
-  pub others : (i : ℕ) (d : StationToken) → i ≢ 0 → slice_index_or stations i d ≡ slice_index_or operators i d
-
 -- whether a request that is at this place was told no decision
 abbrev pub is_undecided : Place → Bool
 is_undecided places.Away = true
@@ -42,18 +38,19 @@ is_undecided places.Over = false
 
 -- the numbers of those of these requests that did not arrive, or wait, in their order
 abbrev pub undecided : List RequestView → List ℕ
-undecided [] = []
-undecided (r ∷ rs) = if is_undecided (place_of r.token) then r.number ∷ undecided rs else undecided rs
+undecided requests = map (λ (r : RequestView). r.number) (filter (λ (r : RequestView). is_undecided (place_of r.token)) requests)
+
+-- one attempt to cancel the request
+abbrev pub AttemptsToCancel : StationRecord → ℕ → StationRecord → Type 0
+AttemptsToCancel station r station' = (answer : Decision) × CancelsTo station r answer station'
 
 -- one attempt to cancel each of these requests, one after another, and no other step
 abbrev pub CancelsThese : List ℕ → StationRecord → StationRecord → Type 0
-CancelsThese [] station station' = station' ≡ station
-CancelsThese (r ∷ rs) station station' = (answer : Decision) × (between : StationRecord) × CancelsTo station r answer between × CancelsThese rs between station'
+CancelsThese requests station station' = FoldsTo AttemptsToCancel station requests station'
 
 -- the first of these operators, if there is one, tried to cancel each of these requests that is undecided, and made no other step
 abbrev pub FirstCancels : List RequestView → List StationToken → List StationToken → Type 0
-FirstCancels requests operators stations = (d : StationToken) → 0 < length operators
-    → CancelsThese (undecided requests) (slice_index_or operators 0 d).station (slice_index_or stations 0 d).station
+FirstCancels requests operators stations = FirstMakes (CancelsThese (undecided requests)) operators stations
 
 -- the end of a session with these requests and operators
 pub record SessionEnds (k : LevelId) (requests : List RequestView) (operators : List StationToken) (r : Report) : Type 0 where

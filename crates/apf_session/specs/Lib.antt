@@ -2,4 +2,8 @@ pub use Rattle.apf_words.specs.Limits
 pub mod Openings
 pub mod Requests
 pub mod Followers
+pub mod Operators
 pub mod Ends
+pub mod LifeOpenings
+pub mod LifeRequests
+pub mod LifeEnds

@@ -9,9 +9,10 @@ use Rattle.apf_gate.specs.declared.record.State.TheVariants.{Fresh}
 use Rattle.apf_gate.specs.Records.{told_own}
 use Rattle.apf_gate.specs.Tokens.{PassToken, pass_gate}
 use Rattle.apf_gate.specs.PassSteps.{PassSubtractsLevel}
-use Rattle.apf_level.specs.declared.answers.TryAdmit.{TryAdmit}
-use Rattle.apf_level.specs.declared.answers.TryAdmit.TheVariants as tried
-use Rattle.apf_level.specs.Admission.{TriesToAdmit, Polls}
+use Rattle.apf_level.specs.declared.answers.Tried.{Tried}
+use Rattle.apf_level.specs.declared.answers.Tried.TheVariants as tries
+use Rattle.apf_level.specs.Attempts.{Attempts}
+use Rattle.apf_level.specs.Admission.{Polls}
 use Rattle.apf_level.specs.InPlace.{poll_of}
 use Rattle.apf_level.specs.declared.answers.Begun.{Begun}
 use Rattle.apf_level.specs.declared.answers.Begun.TheVariants as begins
@@ -107,15 +108,16 @@ pub record Answers (place : Place) (old : RequestView) (answer : Answer) (new : 
   pub right : place_of old.token ≡ place → answer ≢ answers.Wrong
   pub wrong : place_of old.token ≢ place → (answer ≡ answers.Wrong) × (new ≡ old)
 
--- what is answered of an attempt, and the token that is kept of it
-abbrev pub KeepsTried : TryAdmit → Answer → Token → Type 0
-KeepsTried (tried.Run pass) answer token = (answer ≡ answers.Run) × (token ≡ tokens.Running pass)
-KeepsTried (tried.Over pass decision waiting) answer token = (answer ≡ answers.Tried decision waiting) × (token ≡ tokens.Done pass)
-KeepsTried (tried.Busy pass) answer token = (answer ≡ answers.Busy) × (token ≡ tokens.Fresh pass)
+-- what is answered of an attempt, and the token that is kept of the Pass that it left
+abbrev pub KeepsTried : Tried → PassToken → Answer → Token → Type 0
+KeepsTried tries.Run pass answer token = (answer ≡ answers.Run) × (token ≡ tokens.Running pass)
+KeepsTried (tries.Over decision waiting) pass answer token = (answer ≡ answers.Tried decision waiting) × (token ≡ tokens.Done pass)
+KeepsTried tries.Blocked pass answer token = (answer ≡ answers.Busy) × (token ≡ tokens.Fresh pass)
+KeepsTried tries.Raced pass answer token = (answer ≡ answers.Busy) × (token ≡ tokens.Fresh pass)
 
 -- what an attempt of a request that did not arrive answers is what its steps found: that requests waited when seats were given back, too
 abbrev pub TriesAs : Token → Answer → Token → Type 0
-TriesAs (tokens.Fresh pass) answer token' = (attempt : TryAdmit) × TriesToAdmit pass.pass attempt × KeepsTried attempt answer token'
+TriesAs (tokens.Fresh pass) answer token' = (tried : Tried) × (left : PassToken) × Attempts pass.pass tried left × KeepsTried tried left answer token'
 TriesAs (tokens.Waiting pass) answer token' = Unit {0}
 TriesAs (tokens.Running pass) answer token' = Unit {0}
 TriesAs (tokens.Done pass) answer token' = Unit {0}

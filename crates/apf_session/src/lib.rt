@@ -50,11 +50,13 @@
 //! - `operator`: cancels, closes, reads the level word and sets the limit.
 //! - `session`: a level with all of these, from its opening to its end.
 //! - `follower`: one reader of a level's log.
+//! - `life`: the front door of a level for a server's whole life.
 #![tactic(auto)]
 
 mod answer;
 mod fault;
 mod follower;
+pub mod life;
 mod opening;
 mod operator;
 mod request;

@@ -14,7 +14,8 @@ ghost use Rattle.apf_level.specs.Opening.{SettledBy};
 ghost use Rattle.apf_session.specs.declared.answer.Place.TheVariants as places;
 ghost use Rattle.apf_session.specs.Openings.{level_of, level_with, IsNew, IsOpenFault};
 ghost use Rattle.apf_session.specs.Requests.{RequestView, AreNumbered, ArePassesNumbered, AreAway, CallsOne, LogsFor, SaysWhere, ReadsAs, AreLeftOf, ReleasesAs, StaysTold, StayTold};
-ghost use Rattle.apf_session.specs.Ends.{CancelsThese, FirstCancels, KeepsOrder, SessionEnds, undecided};
+ghost use Rattle.apf_session.specs.Operators.{StayButFirst, KeepsOrder};
+ghost use Rattle.apf_session.specs.Ends.{CancelsThese, FirstCancels, SessionEnds, undecided};
 
 use crate::answer::{Answer, Place};
 use crate::fault::OpenFault;
@@ -365,7 +366,7 @@ impl<K: Naming> Session<K> {
         requires is_request { request < length K.level.gate.shape.widths }
         requires operator { 0 < K.level.gate.shape.stations }
         ensures answer { (d : StationToken) → CancelsTo (slice_index_or self.old.operators.items 0 d).station request result (slice_index_or self.new.operators.items 0 d).station }
-        ensures others { (i : ℕ) (d : StationToken) → i ≢ 0 → slice_index_or self.new.operators.items i d ≡ slice_index_or self.old.operators.items i d }
+        ensures others { StayButFirst self.old.operators.items self.new.operators.items }
         ensures same { self.new.requests.items ≡ self.old.requests.items }
     {
         let (decision, owed) = self.operators[0].cancel(&self.level, request);
@@ -377,7 +378,7 @@ impl<K: Naming> Session<K> {
     pub fn close(&mut self) -> Close
         requires { 0 < K.level.gate.shape.stations }
         ensures answer { (d : StationToken) → ClosesTo (slice_index_or self.old.operators.items 0 d).station result (slice_index_or self.new.operators.items 0 d).station }
-        ensures others { (i : ℕ) (d : StationToken) → i ≢ 0 → slice_index_or self.new.operators.items i d ≡ slice_index_or self.old.operators.items i d }
+        ensures others { StayButFirst self.old.operators.items self.new.operators.items }
         ensures same { self.new.requests.items ≡ self.old.requests.items }
     {
         self.operators[0].close(&self.level)
@@ -387,7 +388,7 @@ impl<K: Naming> Session<K> {
     pub fn look(&mut self) -> LevelWord
         requires { 0 < K.level.gate.shape.stations }
         ensures answer { (d : StationToken) → StationLoadsLevel (slice_index_or self.old.operators.items 0 d).station result (slice_index_or self.new.operators.items 0 d).station }
-        ensures others { (i : ℕ) (d : StationToken) → i ≢ 0 → slice_index_or self.new.operators.items i d ≡ slice_index_or self.old.operators.items i d }
+        ensures others { StayButFirst self.old.operators.items self.new.operators.items }
         ensures same { self.new.requests.items ≡ self.old.requests.items }
     {
         self.operators[0].look(&self.level)
@@ -400,7 +401,7 @@ impl<K: Naming> Session<K> {
         requires some { 1 ≤ limit }
         requires small { limit ≤ max_limit }
         ensures answer { (d : StationToken) → LastSet (slice_index_or self.old.operators.items 0 d).station limit result (slice_index_or self.new.operators.items 0 d).station }
-        ensures others { (i : ℕ) (d : StationToken) → i ≢ 0 → slice_index_or self.new.operators.items i d ≡ slice_index_or self.old.operators.items i d }
+        ensures others { StayButFirst self.old.operators.items self.new.operators.items }
         ensures same { self.new.requests.items ≡ self.old.requests.items }
     {
         self.operators[0].set_limit(rt, &self.level, limit)

@@ -6,7 +6,7 @@ ghost use Rattle.apf_texts.specs.Texts.{totals_text};
 ghost use Rattle.apf_run.specs.RoundsBooks.{book_of};
 
 use crate::transcript::WriteFault;
-use apf_life::Report;
+use apf_level::life::Report;
 use apf_texts::Totals;
 use std::io::Write;
 

@@ -3,7 +3,8 @@
 ghost use Rattle.std.specs.Prelude.{◌≡◌, ◌+◌, ◌<◌, ◌≤◌, [], length, All, IfOk, IfErr, OnOk};
 ghost use Rattle.apf_words.specs.Limits.{max_stations};
 ghost use Rattle.apf_session.specs.Openings.{IsNew};
-ghost use Rattle.apf_run.specs.RoundsWorkers.{IsFirstOf, IsIdle, IsReady, IsThrough, held};
+ghost use Rattle.apf_session.specs.LifeOpenings.{IsFirstOf};
+ghost use Rattle.apf_run.specs.RoundsWorkers.{IsIdle, IsReady, IsThrough, held};
 ghost use Rattle.apf_run.specs.Crews.{expected, IsCrewFault};
 ghost use Rattle.apf_run.specs.declared.fault.RunFault.TheVariants as faults;
 
@@ -15,7 +16,7 @@ use crate::rounds::plan::Plan;
 use crate::rounds::watch::Watch;
 use crate::rounds::worker::{Job, Work, Worker};
 use apf_gate::Station;
-use apf_life::Done;
+use apf_level::life::Done;
 use std::alloc::{AllocError, Global};
 use std::sync::Wait;
 use std::thread;

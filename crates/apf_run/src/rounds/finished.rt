@@ -8,7 +8,7 @@ ghost use Rattle.apf_run.specs.RoundsRuns.{AreFinished};
 use crate::rounds::plan::Plan;
 use crate::rounds::worker::Worker;
 use apf_gate::{Pass, Station};
-use apf_life::Done;
+use apf_level::life::Done;
 use std::alloc::{AllocError, Global};
 use std::marker::{Model, PhantomData};
 

@@ -4,14 +4,14 @@ ghost use Rattle.std.specs.Prelude.{◌≡◌, ◌≢◌, [], true, IsTrue, None
 ghost use Rattle.apf_gate.specs.Records.{told_of};
 ghost use Rattle.apf_gate.specs.Slots.{IsTicket};
 ghost use Rattle.apf_gate.specs.Tokens.{station_gate};
-ghost use Rattle.apf_life.specs.Admission.{strike_owed};
+ghost use Rattle.apf_level.specs.LifeAdmission.{strike_owed};
 ghost use Rattle.apf_run.specs.Plans.{SomeCloses};
 ghost use Rattle.apf_run.specs.RoundsPlans.{IsNamedIn, IsFaithful};
 ghost use Rattle.apf_run.specs.RoundsWorkers.{KeepsKnowing};
 
 use crate::rounds::plan::Plan;
 use apf_gate::{Cancel, Read, Station, Ticket};
-use apf_life::{Level, OwedStrike};
+use apf_level::life::{Level, OwedStrike};
 use std::marker::{Model, PhantomData};
 use std::sync::Wait;
 

@@ -1,6 +1,6 @@
 //! What a run in rounds was asked for.
 
-use apf_life::Naming;
+use apf_level::life::Naming;
 use std::marker::Brand;
 
 /// Stands for one level, for the requests of a run on it, and for how many rounds the run has.

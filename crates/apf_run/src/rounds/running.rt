@@ -1,7 +1,7 @@
 //! Runs requests by workers, in rounds.
 
 ghost use Rattle.std.specs.Prelude.{◌≡◌, ◌<◌, ◌≤◌, length, All, IfOk, IfErr, OnOk};
-ghost use Rattle.apf_life_session.specs.Openings.{level_of};
+ghost use Rattle.apf_session.specs.LifeOpenings.{level_of};
 ghost use Rattle.apf_run.specs.RoundsPlans.{HasWidth, max_rounds};
 ghost use Rattle.apf_run.specs.RoundsRuns.{HasRunRounds};
 ghost use Rattle.apf_run.specs.RoundsFaults.{CanRunRounds, IsRoundsFault};
@@ -10,13 +10,13 @@ use crate::fault::RunFault;
 use crate::rounds::crew::{deal_out, work_all};
 use crate::rounds::finished::Finished;
 use crate::rounds::newest::Newest;
-use crate::rounds::opening::Opening;
 use crate::rounds::plan::Plan;
 use crate::rounds::watch::Watch;
 use crate::rounds::worker::{Job, Work};
 use apf_files::Request;
-use apf_life::{Level, Opened, Report};
+use apf_level::life::{Level, Opened, Report};
 use apf_model::Config;
+use apf_session::life::Opening;
 use std::alloc::Global;
 use std::marker::Brand;
 use std::sync::Wait;

@@ -5,17 +5,18 @@ ghost use Rattle.apf_gate.specs.Slots.{IsTicket, slot_of, round_of, number_of};
 ghost use Rattle.apf_gate.specs.Tokens.{pass_gate};
 ghost use Rattle.apf_gate.specs.Traces.{asked_in};
 ghost use Rattle.apf_line.specs.Tokens.{IsDone};
-ghost use Rattle.apf_life.specs.Arrivals.{TraceGoesOn};
-ghost use Rattle.apf_life.specs.Calls.{IsFreshPass};
+ghost use Rattle.apf_level.specs.LifeArrivals.{TraceGoesOn};
+ghost use Rattle.apf_level.specs.Attempts.{IsFreshPass};
+ghost use Rattle.apf_session.specs.LifeOpenings.{IsFirstOf};
 ghost use Rattle.apf_run.specs.RoundsPlans.{HasWidth, IsNamedIn, AreOrders};
-ghost use Rattle.apf_run.specs.RoundsWorkers.{IsInRound, IsFirstOf, KeepsKnowing, IsKnown, HasAsked, IsLoadOf, IsReady, IsThrough};
+ghost use Rattle.apf_run.specs.RoundsWorkers.{IsInRound, KeepsKnowing, IsKnown, HasAsked, IsLoadOf, IsReady, IsThrough};
 
 use crate::rounds::newest::Newest;
 use crate::rounds::operator::Operator;
 use crate::rounds::plan::Plan;
 use apf_files::Request;
 use apf_gate::{Pass, Station, Ticket};
-use apf_life::{Begun, Done, Executing, Level};
+use apf_level::life::{Begun, Done, Executing, Level};
 use apf_model::Ask;
 use std::alloc::{AllocError, Global};
 use std::marker::Model;
@@ -146,7 +147,7 @@ impl<'a, K: Plan, W: Work> Job<'a, K, W> {
         requires width { HasWidth request }
         requires before { round_of slot.old.pass.number + 1 ≡ round }
         requires in_rounds { round ≤ K.rounds }
-        ensures fresh { IsFreshPass K.level slot.new }
+        ensures fresh { IsFreshPass K.level.gate slot.new }
         ensures number { slot.new.pass.number ≡ number_of (slot_of slot.old.pass.number) round request.width }
         ensures asked { asked_in slot.new.pass.knows.trace slot.new.pass.number ≡ Some (record { hash = request.hash; cost = request.width }) }
         ensures goes_on { TraceGoesOn slot.old slot.new }
@@ -183,7 +184,7 @@ fn finish<K: Plan, W: Work, R: Wait>(
     request: Request,
     slot: &mut Pass,
 )
-    requires fresh { IsFreshPass K.level slot.old }
+    requires fresh { IsFreshPass K.level.gate slot.old }
     requires planned { Contains K.requests request }
     requires width { HasWidth request }
     requires asked { asked_in slot.old.pass.knows.trace slot.old.pass.number ≡ Some (record { hash = request.hash; cost = request.width }) }

@@ -5,11 +5,11 @@ ghost use Rattle.apf_run.specs.RoundsPlans.{HasWidth};
 
 use crate::rounds::runs::{Fault, Nothing, one_queue};
 use apf_gate::GateFault;
-use apf_life::LevelFault;
-use apf_life_session::OpenFault;
+use apf_level::life::LevelFault;
 use apf_model::{Config, Response};
 use apf_run::rounds::{Nobody, run_rounds};
 use apf_run::{Request, RunFault};
+use apf_session::life::OpenFault;
 use std::alloc::{AllocError, Global};
 use std::sync::Wait;
 use std::test::Fail;

@@ -1,5 +1,5 @@
 -- The gate that was opened is the level's.
-use Rattle.apf_life_session.specs.Openings.{level_of}
+use Rattle.apf_session.specs.LifeOpenings.{level_of}
 use Rattle.apf_life_tests.proofs.histories.run.Given as goal
 
 abbrev pub ghosts-play : goal.ghosts-play

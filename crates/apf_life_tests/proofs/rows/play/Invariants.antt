@@ -1,5 +1,5 @@
 -- The gate that was opened is the level's.
-use Rattle.apf_life_session.specs.Openings.{level_of, level_settling}
+use Rattle.apf_session.specs.LifeOpenings.{level_of, level_settling}
 use Rattle.apf_life_tests.proofs.rows.play.Given as goal
 
 abbrev pub ghosts-one_after_another : goal.ghosts-one_after_another

@@ -1,5 +1,5 @@
 -- The gate that was opened is the level's.
-use Rattle.apf_life_session.specs.Openings.{level_of}
+use Rattle.apf_session.specs.LifeOpenings.{level_of}
 use Rattle.apf_life_trials.proofs.rounds.open.Given as goal
 
 abbrev pub ghosts-run_named : goal.ghosts-run_named

@@ -1,8 +1,8 @@
 -- One attempt more.
 use Rattle.std.proofs.Common.{[], ◌∷◌, refl, subst, ◌∙◌}
-use Rattle.apf_session.specs.Ends.{CancelsThese, undecided}
-use Rattle.apf_session.specs.Requests.{RequestView}
-use Rattle.apf_session.proofs.Cancelling.{at_place}
+use Rattle.apf_session.specs.Ends.{AttemptsToCancel, CancelsThese, is_undecided, undecided}
+use Rattle.apf_session.specs.Requests.{RequestView, place_of}
+use Rattle.apf_session.proofs.Attempts.{at_place}
 use Rattle.apf_session.proofs.session.cancel_undecided.Goals as goal
 
 pub loop-request-init : goal.loop-request-init
@@ -15,6 +15,7 @@ loop-request-preserved g c =
     let item = c.request-item in
     record {
       number = c.cancel_if_undecided.ensures.number ∙ c.loop-request.invariant.number;
-      cancels = λ s more. c.loop-request.invariant.cancels s (at_place c.args.requests.now c.loop-request.request-index item.result a b s c.loop-request-test.true
+      cancels = λ s more. c.loop-request.invariant.cancels s (at_place (λ (r : RequestView). is_undecided (place_of r.token)) (λ (r : RequestView). r.number) AttemptsToCancel
+          c.args.requests.now c.loop-request.request-index item.result a b s c.loop-request-test.true
           (subst (λ (r : RequestView). CancelsThese (undecided (r ∷ [])) a b) item.is c.cancel_if_undecided.ensures.cancels) more);
     }

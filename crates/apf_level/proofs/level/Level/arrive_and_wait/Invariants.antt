@@ -1,5 +1,6 @@
 use Rattle.std.proofs.Common.{◌≤◌}
-use Rattle.apf_level.specs.Tokens.{IsOf, IsInLine}
+use Rattle.apf_line.specs.Tokens.{IsOf}
+use Rattle.apf_level.specs.Tokens.{IsInLine}
 use Rattle.apf_level.proofs.level.Level.arrive_and_wait.Given as goal
 
 abbrev pub invariant-loop : goal.invariant-loop

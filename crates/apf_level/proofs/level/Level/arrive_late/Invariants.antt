@@ -1,8 +1,7 @@
 -- The request is the same and did not enter. Whoever is not decided is fresh.
 use Rattle.std.proofs.Common.{◌≡◌, false}
-use Rattle.apf_level.specs.Admission.{IsTriedTold}
-use Rattle.apf_level.specs.Attempts.{tried_of, IsKeptBy, StaysOut}
-use Rattle.apf_level.specs.Tokens.{IsOf}
+use Rattle.apf_level.specs.Attempts.{IsAttemptedTold, IsKeptInBatch, StaysOut}
+use Rattle.apf_line.specs.Tokens.{IsOf}
 use Rattle.apf_level.proofs.level.Level.arrive_late.Given as goal
 
 abbrev pub invariant-loop : goal.invariant-loop
@@ -10,9 +9,9 @@ invariant-loop g l =
     record {
       next : (goal.iterator-loop g).can_next l.iterator';
       ends : (goal.iterator-loop g).is_finite l.iterator';
-      kept : IsKeptBy l.tried l.pass;
+      kept : IsKeptInBatch l.tried l.pass;
       same : IsOf l.fn.pass l.pass;
-      told : IsTriedTold (tried_of l.tried l.pass);
+      told : IsAttemptedTold l.tried l.pass;
       outside : StaysOut l.fn.pass.pass l.tried l.pass;
       never_entered : l.fn.pass.pass.entered ≡ false;
     }

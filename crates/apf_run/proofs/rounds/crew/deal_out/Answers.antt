@@ -3,7 +3,8 @@ use Rattle.std.specs.Vec.Iter.{into_iter_items}
 use Rattle.std.proofs.lemmas.List.{length_push}
 use Rattle.std.proofs.lemmas.List.Elements.{All-set, All-rest}
 use Rattle.apf_gate.specs.Tokens.{PassToken}
-use Rattle.apf_run.specs.RoundsWorkers.{Load, IsFirstOf, IsReady, held}
+use Rattle.apf_session.specs.LifeOpenings.{IsFirstOf}
+use Rattle.apf_run.specs.RoundsWorkers.{Load, IsReady, held}
 use Rattle.apf_run.proofs.RoundsCrews.{none_held, one_more_held, idle_ready, still_ready}
 use Rattle.apf_run.proofs.rounds.crew.deal_out.Goals as goal
 

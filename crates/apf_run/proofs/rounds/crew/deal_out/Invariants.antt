@@ -1,7 +1,8 @@
 -- The workers have as many slots as are gone, of which no request came, nor of one that is left.
 use Rattle.std.proofs.Common.{◌≡◌, ◌+◌, length, All}
 use Rattle.std.specs.Vec.Iter.{into_iter_items}
-use Rattle.apf_run.specs.RoundsWorkers.{IsFirstOf, IsReady, held}
+use Rattle.apf_session.specs.LifeOpenings.{IsFirstOf}
+use Rattle.apf_run.specs.RoundsWorkers.{IsReady, held}
 use Rattle.apf_run.proofs.rounds.crew.deal_out.Given as goal
 
 abbrev pub invariant-loop-slot : goal.invariant-loop-slot

@@ -1,5 +1,5 @@
 -- The gate that was opened is the level's, and the requests and the rounds are the plan's.
-use Rattle.apf_life_session.specs.Openings.{level_of}
+use Rattle.apf_session.specs.LifeOpenings.{level_of}
 use Rattle.apf_run.proofs.rounds.running.run_rounds.Given as goal
 
 abbrev pub ghosts-run_named-K-Naming : goal.ghosts-run_named-K-Naming

@@ -1,7 +1,8 @@
 -- The report is of the Passes that are left of the requests, and of the operators' Stations.
 use Rattle.std.proofs.Common.{List, subst, sym}
 use Rattle.apf_gate.specs.Tokens.{StationToken}
-use Rattle.apf_session.specs.Ends.{FirstCancels, KeepsOrder}
+use Rattle.apf_session.specs.Operators.{KeepsOrder}
+use Rattle.apf_session.specs.Ends.{FirstCancels}
 use Rattle.apf_session.proofs.Concluding.{ends}
 use Rattle.apf_session.proofs.session.Session.end.Goals as goal
 

@@ -4,7 +4,8 @@ use Rattle.std.proofs.lemmas.List.Elements.{All-push}
 use Rattle.apf_files.specs.declared.requests.Request.{Request}
 use Rattle.apf_gate.specs.Tokens.{GateId, PassToken, StationToken, pass_gate}
 use Rattle.apf_line.specs.Tokens.{IsDone}
-use Rattle.apf_run.specs.RoundsWorkers.{IsFirstOf, IsKnown, HasAsked}
+use Rattle.apf_session.specs.LifeOpenings.{IsFirstOf}
+use Rattle.apf_run.specs.RoundsWorkers.{IsKnown, HasAsked}
 use Rattle.apf_run.proofs.Known.{first_known, first_asked}
 use Rattle.apf_run.proofs.rounds.worker.Worker.add.Goals as goal
 

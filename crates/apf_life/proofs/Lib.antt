@@ -1,4 +1,0 @@
-pub mod Knowing
-pub mod Setting
-pub mod Asks
-pub mod Histories

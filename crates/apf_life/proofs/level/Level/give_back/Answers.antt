@@ -1,5 +1,0 @@
-use Rattle.apf_life.proofs.Asks.{on_of}
-use Rattle.apf_life.proofs.level.Level.give_back.Goals as goal
-
-pub returns-clause-goes_on : goal.returns-clause-goes_on
-returns-clause-goes_on g c = on_of c.args.pass.now.pass.knows c.release.new.pass.pass.knows c.release.ensures.same.more

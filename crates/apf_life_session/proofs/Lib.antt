@@ -1,2 +1,0 @@
-pub mod Concluding
-pub mod Cancelling

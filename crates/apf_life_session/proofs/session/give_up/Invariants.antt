@@ -1,9 +1,0 @@
--- Each turn has one request less.
-use Rattle.std.proofs.Common.{length}
-use Rattle.apf_life_session.proofs.session.give_up.Given as goal
-
-abbrev pub invariant-loop-request : goal.invariant-loop-request
-invariant-loop-request g l = Unit {0}
-
-abbrev pub decreases-loop-request : goal.decreases-loop-request
-decreases-loop-request g l = length l.requests.items

@@ -6,6 +6,7 @@ followed by what it prints. A block ```session CONFIG WORDS has what `apf serve`
 end of its input. A page is run in a folder of its own that has the examples and the program as ./apf.
 """
 
+import functools
 import os
 import re
 import select
@@ -111,11 +112,13 @@ for name in PAGES:
     tally.check(f"{name}: no file that it writes is one of another page", sorted(written[name] & others), [])
 
 # each link leads to a file that is there, and to a heading of it where it names one
+@functools.cache
 def prose(path):
     with open(path, encoding="utf-8") as page:
         return re.sub(r"^```.*?^```$", "", page.read(), flags=re.M | re.S)
 
 
+@functools.cache
 def headings(path):
     """The names by which links call a page's headings."""
     return {re.sub(r"[^\w\- ]", "", it.lower()).replace(" ", "-") for it in re.findall(r"^#+ (.*)$", prose(path), re.M)}
@@ -207,6 +210,7 @@ rows = rows_of_proved()
 tally.check("docs/proof/PROVED.md: at least 200 rows", len(rows) >= 200, True)
 
 
+@functools.cache
 def code_of(path):
     """A source's text without its comments, which are no contracts."""
     text = open(path, encoding="utf-8").read()
@@ -238,7 +242,7 @@ for row in rows:
         named = [it.split("::")[-1] for it in re.findall(r"`(\w+::\w+)`", front)] if files else []
         tally.check(f"docs/proof/PROVED.md: the files of {front}: {row[0][:70]}", [it for it in named if not any(it in contracts.of(path) for path in files)], [])
         functions = {it.split("::")[-1] for it in re.findall(r"`([^`]+)`", front)}
-        found = [(name, it) for path in files if os.path.isfile(path) for name, those in contracts.of(path).items() if name in functions for it in those]
+        found = [(name, it) for path in files if os.path.isfile(path) for name in contracts.of(path) if name in functions for it in contracts.of_function(path, name)]
         said = set().union(*(words for _, (_, words) in found))
         for name in sorted({name for name, _ in found}):
             asked += 1

@@ -9,12 +9,12 @@ import tempfile
 import time
 
 sys.path.insert(0, os.path.join(os.path.dirname(os.path.abspath(__file__)), "lib"))
-from harness import LAUNCHER, TOP, Tally, drop_rights, write
+from harness import LAUNCHER, TOP, Tally, drop_rights, folder_in_memory, write
 
 # what runs in the background of a shell ignores an interrupt, and so would the builds that are interrupted here
 signal.signal(signal.SIGINT, signal.default_int_handler)
 tally = Tally()
-room = tempfile.TemporaryDirectory(prefix="apf-test-")
+room = tempfile.TemporaryDirectory(prefix="apf-test-", dir=folder_in_memory())
 os.chmod(room.name, 0o755)
 
 # what `rt run` does here, in the words of the kit's: it notes its call, begins each crate that it does not keep, does what the file
@@ -252,7 +252,9 @@ if rights is not None:
     for at, folders, names in os.walk(still.top):
         os.chmod(at, 0o755)
 
-# a stored program that is not of these sources, or does not run here, is not run
+# a stored program that is not of these sources, or does not run here, is not run; what `program/store` made of one checkout is that of each
+stored = Checkout("stored")
+stored.store()
 for name, change in [
     ("a source that changed", lambda it: write(it.path("low", "src", "lib.rt"), "changed")),
     ("a proof that changed", lambda it: write(it.path("low", "proofs", "Lib.antt"), "changed")),
@@ -268,7 +270,7 @@ for name, change in [
 ]:
     for was_run in (False, True):
         checkout = Checkout(f"other-{was_run}-" + name.replace(" ", "-").replace(".", "-"))
-        checkout.store()
+        shutil.copytree(os.path.join(stored.top, "program"), os.path.join(checkout.top, "program"), dirs_exist_ok=True)
         if was_run and name != "another machine":
             tally.check(f"{name}: stored before", checkout.run("x"), (7, "first x\n", [], []))
         change(checkout)

@@ -201,8 +201,7 @@ def first_difference(got, want):
 
 def serve(content, level, *words, **how):
     """The status, the output and the errors of a session with this input."""
-    done = subprocess.run([program, "serve", file_of(json.dumps(level)), *words], input=content, capture_output=True, timeout=2 * MOST, **how)
-    return done.returncode, done.stdout, done.stderr
+    return run(program, ["serve", file_of(json.dumps(level)), *words], content, **how)
 
 
 class Conversation:

@@ -10,12 +10,12 @@ import tempfile
 import time
 
 sys.path.insert(0, os.path.join(os.path.dirname(os.path.abspath(__file__)), "lib"))
-from harness import LAUNCHER, TOP, Tally, write
+from harness import LAUNCHER, TOP, Tally, folder_in_memory, write
 
 # a shell can't trap what was ignored before it, and what runs in the background of another shell ignores an interrupt
 signals.signal(signals.SIGINT, signals.default_int_handler)
 tally = Tally()
-room = tempfile.TemporaryDirectory(prefix="apf-test-")
+room = tempfile.TemporaryDirectory(prefix="apf-test-", dir=folder_in_memory())
 
 # what `rt` does in a run of `test`: it notes the call, and `ci` may build the program, change a source, or fail
 RT_OF_TEST = r"""#!/usr/bin/env bash
@@ -42,6 +42,13 @@ echo "${PLANTED:-0 passed, 0 failed}"
 """
 
 
+# what `python3` is there: the program of this name that it is asked for is itself, so that each script begins as quickly as it can
+PYTHON = f"""#!/bin/sh
+[ "$1" != -c ] || {{ echo "$0"; exit; }}
+exec {sys.executable} -I "$@"
+"""
+
+
 def is_running(process):
     """Whether the process of this number runs: one that ended may still be listed until its parent asks for it."""
     try:
@@ -56,14 +63,13 @@ def test_of(name, *scripts, processors=2):
     write(os.path.join(top, "bin", "rt"), RT_OF_TEST, 0o755)
     write(os.path.join(top, "plant"), PLANT_OF_TEST, 0o755)
     write(os.path.join(top, "bin", "nproc"), f"#!/bin/sh\necho {processors}\n", 0o755)
-    # where python3 is a script that looks for it, it takes longer than what it runs here
-    os.symlink(sys.executable, os.path.join(top, "bin", "python3"))
+    write(os.path.join(top, "bin", "python3"), PYTHON, 0o755)
     write(os.path.join(top, "crates.txt"), "apf:\n")
     write(os.path.join(top, "crates", "apf", "src", "main.rt"), "first")
     for file in ("test", "apf"):
         shutil.copy(os.path.join(TOP, file), os.path.join(top, file))
     for place, (text, status, *first) in enumerate(scripts):
-        lines = ["import os, subprocess, sys, time", *first, f"print({text!r})", f"sys.exit({status})"]
+        lines = ["import os, sys, time", *first, f"print({text!r})", f"sys.exit({status})"]
         write(os.path.join(top, "tests", f"{place}.py"), "\n".join(lines) + "\n")
     return top
 
@@ -238,7 +244,7 @@ tally.check("test: beside one that waits another one runs on one processor", lin
 
 # an interrupt of the one process ends the scripts and what they run, and counts as a failure
 for signal in ("INT", "TERM"):
-    waits = "child = subprocess.Popen(['sleep', '300'])\nopen('pid.new', 'w').write(f'{os.getpid()} {child.pid}')\nos.rename('pid.new', 'pid')\ntime.sleep(300)"
+    waits = "import subprocess\nchild = subprocess.Popen(['sleep', '300'])\nopen('pid.new', 'w').write(f'{os.getpid()} {child.pid}')\nos.rename('pid.new', 'pid')\ntime.sleep(300)"
     top = test_of("interrupt " + signal, ("1 passed, 0 failed", 0, waits))
     running = begun(top, WELL)
     for _ in range(400):

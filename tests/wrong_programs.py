@@ -34,18 +34,6 @@ def instead(status, out, err):
     sys.stderr.buffer.write(err)
     sys.stdout.flush()
     sys.exit(status)
-def content(name):
-    try:
-        return open(name, "rb").read()
-    except OSError:
-        return None
-def changed(place, *how):
-    import re, tempfile
-    if replay and content(replay[place]) is not None:
-        room = tempfile.TemporaryDirectory()
-        path = os.path.join(room.name, "file")
-        open(path, "wb").write(re.sub(how[0], how[1], content(replay[place])))
-        instead(*answer(["replay", *[path if at == place else name for at, name in enumerate(replay)]]))
 """
 END = """
 os.execv({program!r}, [{program!r}, *words])
@@ -63,6 +51,17 @@ def shell(body):
 # runs other requests than those of the file
 def other_requests(change):
     return shell(f"""[ "$1" = run ] && {{ config=$2; other=$(mktemp); sed -E '{change}' "$3" >"$other"; shift 3; {program} run "$config" "$other" "$@"; status=$?; rm "$other"; exit $status; }}""")
+
+
+# replays another file in the place of the config or of the requests, where that one can be read
+def other_file(place, change):
+    words = " ".join('"$other"' if at == place else f'"${at}"' for at in (2, 3, 4))
+    return shell(f"""[ "$1" = replay ] && [ $# = 4 ] && [ -f "${place}" ] && {{ other=$(mktemp); sed -E '{change}' "${place}" >"$other"; {program} replay {words}; status=$?; rm "$other"; exit $status; }}""")
+
+
+# says instead that a file can't be read, where that is so and the program finds fault with another one
+def early(place, name, other):
+    return shell(f"""[ "$1" = replay ] && [ $# = 4 ] && ! cat "${place}" >"/dev/null" 2>&1 && {{ said=$({program} "$@" 2>&1 >/dev/null); case $said in *" {other}"*) echo "apf: cannot read {name}" >&2; exit 1 ;; esac; }}""")
 
 
 # answers a run that is refused memory by a usage error; it takes no memory of its own
@@ -183,30 +182,12 @@ WRONG = [
     ("no memory for 9,999 requests", shell('[ "$1" = replay ] && [ "$(wc -c <"$3")" -eq 109990 ] && { echo "apf: out of memory" >&2; exit 3; }'), "files.py", "FAILED 9999 requests"),
     ("no memory told as a usage error", USAGE, "memory.py", "FAILED hash a b without allocation 1"),
     ("workers that are numbered from one", NUMBERED, "memory.py", "FAILED run config requests 1 without allocation"),
-    ("each width is 1", python('changed(1, rb\'"width" *: *[1-9][0-9]*\', b\'"width":1\')'), "replay.py", "FAILED widths 2 and 1 of 2 seats"),
-    ("the limit is 1", python('changed(0, rb\'"limit" *: *[1-9][0-9]*\', b\'"limit":1\')'), "replay.py", "FAILED limit 2, widths (1, 1)"),
-    ("Reject is replayed as Queue", python('changed(0, rb"Reject", b"Queue")'), "replay.py", "FAILED Reject"),
-    ("the script is read before the requests", python('''
-got = answer(words)
-if replay and b" requests" in got[2] and content(replay[2]) is None:
-    instead(1, b"", b"apf: cannot read script\\n")
-'''), "replay.py", "FAILED the requests before the script"),
-    ("the requests are read before the config is judged", python('''
-got = answer(words)
-if replay and b" config" in got[2] and content(replay[1]) is None:
-    instead(1, b"", b"apf: cannot read requests\\n")
-'''), "replay.py", "FAILED the config before the requests"),
-    ("the dealer is judged before the requests are read", python('''
-got = answer(["replay", replay[0], os.devnull, os.devnull]) if replay else None
-if replay and b" config" not in got[2]:
-    import tempfile
-    with tempfile.NamedTemporaryFile() as none:
-        none.write(b"[]")
-        none.flush()
-        early = answer(["replay", replay[0], none.name, os.devnull])
-    if b"dealer" in early[2]:
-        instead(*early)
-'''), "replay.py", "FAILED the requests before the dealer"),
+    ("each width is 1", other_file(3, 's/"width" *: *[1-9][0-9]*/"width":1/g'), "replay.py", "FAILED widths 2 and 1 of 2 seats"),
+    ("the limit is 1", other_file(2, 's/"limit" *: *[1-9][0-9]*/"limit":1/g'), "replay.py", "FAILED limit 2, widths (1, 1)"),
+    ("Reject is replayed as Queue", other_file(2, "s/Reject/Queue/g"), "replay.py", "FAILED Reject"),
+    ("the script is read before the requests", early(4, "script", "requests"), "replay.py", "FAILED the requests before the script"),
+    ("the requests are read before the config is judged", early(3, "requests", "config"), "replay.py", "FAILED the config before the requests"),
+    ("the dealer is judged before the requests are read", shell('[ "$1" = replay ] && [ $# = 4 ] && { said=$(echo "[]" | %s replay "$2" - /dev/null 2>&1 >/dev/null); case $said in *dealer*) echo "$said" >&2; exit 1 ;; esac; }' % program), "replay.py", "FAILED the requests before the dealer"),
     ("help that has no line for run", shell('[ "$*" = --help ] && { %s --help | grep -v "^  run "; exit 0; }' % program), "command_line.py", "FAILED --help"),
     ("words that are not UTF-8 told as no memory", NOT_UTF_8, "command_line.py", "FAILED [b'hash', b'\\xff', b'a']"),
     ("a run that finds no memory", shell('[ "$1" = run ] && { echo "apf: out of memory" >&2; exit 3; }'), "workers.py", "FAILED thousand workers"),
@@ -264,7 +245,7 @@ def tried(wrong):
         with open(path, "w") as file:
             file.write(text)
         os.chmod(path, 0o755)
-    done = subprocess.run([sys.executable, os.path.join(HERE, script)], env=dict(os.environ, APF_PROGRAM=path, APF_SPOILED="0", APF_ROUNDS="1", APF_TRACES="20", APF_SESSIONS="60", APF_REQUESTS="30000", APF_STOPS_AT=row), capture_output=True, timeout=600)
+    done = subprocess.run([sys.executable, "-S", os.path.join(HERE, script)], env=dict(os.environ, APF_PROGRAM=path, APF_SPOILED="0", APF_ROUNDS="1", APF_TRACES="20", APF_SESSIONS="60", APF_REQUESTS="30000", APF_STOPS_AT=row), capture_output=True, timeout=600)
     lines = done.stdout.decode(errors="replace").split("\n")
     return name, (done.returncode, any(line.startswith(row) for line in lines), done.stderr), lines
 

@@ -135,7 +135,7 @@ class Browser:
         """Waits until a script answers something that is true, and answers that, or the last answer."""
         end = time.monotonic() + MOST
         while not (value := self.run(script, *words)) and time.monotonic() < end:
-            time.sleep(0.02)
+            time.sleep(0.05)
         return value
 
     def log(self):

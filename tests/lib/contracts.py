@@ -2,7 +2,7 @@
 
 import re
 
-from statements import WORD, Specs, imported
+from statements import WORD, all_specs, imported
 
 FUNCTION = re.compile(r"^\s*(?:pub(?:\([^)]*\))? )?(?:const |unsafe )*fn (\w+)")
 
@@ -29,17 +29,26 @@ class Contracts:
     """The contracts of all sources that are asked for."""
 
     def __init__(self):
-        self.specs, self.read, self.of_definitions = Specs(), {}, {}
+        self.specs, self.read, self.of_definitions = all_specs(), {}, {}
 
     def of(self, path):
-        """The contracts of a file by name, each with all words of its clauses and of the definitions that they cite."""
+        """The clauses of a file's functions, by name."""
+        return self.file(path)[0]
+
+    def of_function(self, path, name):
+        """The contracts of a function of a file, each with all words of its clauses and of the definitions that they cite."""
+        clauses, names = self.file(path)
+        return [(it, self.words(it, names)) for it in clauses.get(name, [])]
+
+    def file(self, path):
+        """The clauses of a file's functions, and what the file brings in."""
         if path not in self.read:
             with open(path, encoding="utf-8") as file:
                 text = file.read()
             names = {}
             for line in text.split("\n"):
                 imported(line, names, {})
-            self.read[path] = {name: [(it, self.words(it, names)) for it in those] for name, those in contracts_in(text).items()}
+            self.read[path] = contracts_in(text), names
         return self.read[path]
 
     def words(self, clauses, names):

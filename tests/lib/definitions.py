@@ -10,7 +10,7 @@ import re
 import sys
 
 from harness import TOP, lines_of_crates
-from statements import Specs
+from statements import all_specs
 
 HEAD = """# Definitions
 
@@ -74,7 +74,7 @@ def words_of(definition):
 
 
 def page():
-    specs, named = Specs(), set()
+    specs, named = all_specs(), set()
     for row in rows_of_proved():
         crates = {it.split("/")[0] for it in re.findall(r"`([^`]+)`", row[-1])}
         parts = {part for it in re.findall(r"`([^`]+)`", row[1]) for part in it.split("::")}

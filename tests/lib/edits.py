@@ -13,6 +13,8 @@ MUST_FAIL = "must-fail"
 LISTED = os.path.join(PLANTED, "must-fail.txt")
 FUNCTION = re.compile(r"^\s*(?:pub(?:\([^)]*\))? )?(?:const |unsafe )*fn (\w+)")
 BLOCK = re.compile(r"^(?:impl\b(?:<.*?>)? ?(?:(\w+)(?:<.*?>)? for )?&?(\w+)|(?:pub )?trait (\w+))")
+# of the written answers of a function: its path
+ANSWERS = re.compile(r"proofs/([\w/]+)/(?:Answers|Invariants)\.antt")
 CONSTANT = re.compile(r"^(?:pub(?:\([^)]*\))? )?(?:const|static) (\w+)")
 
 
@@ -73,8 +75,12 @@ def module_of(file):
 
 
 def places_at(file, text, at):
-    """The function that has this place of the text; of a constant, each function of the file that names it."""
+    """The function that has this place of the text, or that its answers are of; of a constant, each function of the file that names it."""
     lines, row = text.split("\n"), text.count("\n", 0, at)
+    if answers := ANSWERS.fullmatch(file):
+        *modules, name = answers[1].split("/")
+        kind = modules.pop() if modules and modules[-1][0].isupper() else ""
+        return [(f"src/{'/'.join(modules) or 'lib'}.rt", kind, name)]
     if not file.startswith("src/"):
         return [(file, "", "")]
     constant = CONSTANT.match(lines[row])

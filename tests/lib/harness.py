@@ -101,17 +101,35 @@ NOTHING = os.open(os.devnull, os.O_RDONLY)
 ENVIRONMENT = dict(os.environ)
 
 
-def run(program, words, **how):
-    """Runs the program, and answers its status, its output and its errors, as bytes."""
-    if how or HAS_PIPES_ALONE:
-        done = subprocess.run([program, *words], stdin=subprocess.DEVNULL, stdout=subprocess.PIPE, stderr=subprocess.PIPE, timeout=LONGEST, **how)
+def pipe_of(content):
+    """A pipe that holds these bytes and then ends, or None where they do not fit into one."""
+    reading, writing = os.pipe()
+    os.set_blocking(writing, False)
+    try:
+        is_whole = os.write(writing, content) == len(content)
+    except BlockingIOError:
+        is_whole = False
+    os.close(writing)
+    if not is_whole:
+        os.close(reading)
+    return reading if is_whole else None
+
+
+def run(program, words, content=b"", **how):
+    """Runs the program with these bytes on its standard input, and answers its status, its output and its errors, as bytes."""
+    reading = None if how or HAS_PIPES_ALONE else pipe_of(content) if content else NOTHING
+    if reading is None:
+        stdin = {"input": content} if content else {"stdin": subprocess.DEVNULL}
+        done = subprocess.run([program, *words], stdout=subprocess.PIPE, stderr=subprocess.PIPE, timeout=LONGEST, **stdin, **how)
         return done.returncode, done.stdout, done.stderr
     for file in written.files:
         os.ftruncate(file, 0)
         os.lseek(file, 0, os.SEEK_SET)
-    given = [(os.POSIX_SPAWN_DUP2, file, place) for place, file in enumerate([NOTHING, *written.files])]
+    given = [(os.POSIX_SPAWN_DUP2, file, place) for place, file in enumerate([reading, *written.files])]
     # Python ignores these signals, and what it starts does not
     process = os.posix_spawnp(program, [program, *words], ENVIRONMENT, file_actions=given, setsigdef=[signal.SIGPIPE, signal.SIGXFSZ])
+    if content:
+        os.close(reading)
     ending = os.pidfd_open(process)
     is_over = select.select([ending], [], [], LONGEST)[0]
     os.close(ending)

@@ -85,6 +85,10 @@ def observed_of(stretches):
     return Observed(max([seats for seats, _ in stretches]), mean, math.isqrt(max(squares - mean * mean, 0)))
 
 
+# where nobody asks for a seat
+NOTHING = observed_of([(0, PERIOD)])
+
+
 def smoothed_of(before, observed):
     lately = observed.mean + observed.deviation
     return max(lately, (977 * before + 23 * lately) // 1000)
@@ -180,7 +184,9 @@ class Lender:
         self.go_on(time)
         claims = []
         for place, run in enumerate(self.runs):
-            observed = observed_of(stretches_of(stays_of(run, time - PERIOD), time - PERIOD, time))
+            stays = [*stays_of(run, time - PERIOD)]
+            # most levels are asked for nothing
+            observed = observed_of(stretches_of(stays, time - PERIOD, time)) if stays else NOTHING
             self.smoothed[place] = smoothed_of(self.smoothed[place], observed)
             claims.append(claim_of(self.levels[place], self.bounds[place], observed.high, self.smoothed[place]))
         self.adjusted.append((time, claims))

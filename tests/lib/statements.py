@@ -6,6 +6,7 @@ A statement is a contract in a crate's sources. What it cites is looked up in th
 the end. So the page has nothing that was listed by hand, but for the names of the statements.
 """
 
+import functools
 import os
 import re
 import sys
@@ -46,7 +47,8 @@ def text_of(path):
 
 def imported(line, names, modules):
     """Notes what a line brings in: names, each with its module and its name there, and modules by another name."""
-    found = USE.match(line.strip())
+    # most lines bring in nothing, and need not be matched
+    found = "use Rattle." in line and USE.match(line.strip())
     if not found:
         return False
     module, inside, other = found.groups()
@@ -149,6 +151,12 @@ class Specs:
         return seen, types
 
 
+@functools.cache
+def all_specs():
+    """The definitions, read once."""
+    return Specs()
+
+
 def statement_of(file, head):
     """A statement: the function's contract, or one line of a rule, and what its file brings in."""
     lines = text_of(os.path.join(CRATES, file)).split("\n")
@@ -202,7 +210,7 @@ def type_name(path):
 
 
 def page():
-    specs = Specs()
+    specs = all_specs()
     told, types, body, files = {}, set(), [], set()
     for heading, sentence, statements in PARTS:
         roots, shown, concluded_of = [], [], []

@@ -375,6 +375,7 @@ struct Trace<R> {
     line: Vec<u8>,
     lines: u64,
     coming: BinaryHeap<Reverse<Request>>,
+    in_order: VecDeque<Request>,
     last_arrival: u64,
     /// The names that came, with their hashes.
     names: HashMap<(String, String), (Rc<Names>, u64)>,
@@ -385,12 +386,12 @@ struct BadLine(u64);
 
 impl<R: BufRead> Trace<R> {
     fn new(reader: R) -> Self {
-        Trace { reader, line: Vec::new(), lines: 0, coming: BinaryHeap::with_capacity(WINDOW + 1), last_arrival: 0, names: HashMap::new() }
+        Trace { reader, line: Vec::new(), lines: 0, coming: BinaryHeap::new(), in_order: VecDeque::new(), last_arrival: 0, names: HashMap::new() }
     }
 
     /// Reads until as many requests as may be held are there, and one more.
     fn fill(&mut self) -> Result<(), BadLine> {
-        while self.coming.len() <= WINDOW {
+        while self.coming.len() + self.in_order.len() <= WINDOW {
             self.line.clear();
             // A line that is too long, or that can't be read, has no LF at its end here.
             let read = self.reader.by_ref().take(BYTES_OF_LINE as u64 + 1).read_until(b'\n', &mut self.line);
@@ -401,7 +402,10 @@ impl<R: BufRead> Trace<R> {
             if request.arrives_at < self.last_arrival {
                 return Err(BadLine(self.lines + 1));
             }
-            self.coming.push(Reverse(request));
+            match self.in_order.back() {
+                Some(last) if request < *last => self.coming.push(Reverse(request)),
+                _ => self.in_order.push_back(request),
+            }
             self.lines += 1;
         }
         Ok(())
@@ -409,7 +413,11 @@ impl<R: BufRead> Trace<R> {
 
     fn next(&mut self) -> Result<Option<Request>, BadLine> {
         self.fill()?;
-        let next = self.coming.pop().map(|Reverse(request)| request);
+        let is_late = match (self.coming.peek(), self.in_order.front()) {
+            (Some(Reverse(late)), Some(first)) => late < first,
+            (late, _) => late.is_some(),
+        };
+        let next = if is_late { self.coming.pop().map(|Reverse(request)| request) } else { self.in_order.pop_front() };
         self.last_arrival = next.as_ref().map_or(0, |request| request.arrives_at);
         Ok(next)
     }
@@ -937,7 +945,7 @@ impl From<BadLine> for Fault {
 fn simulate(config: Config, patience: u64, trace: &mut Trace<impl BufRead>) -> Result<(Level, u64), Fault> {
     trace.fill()?;
     // By seats where a line that is read before the first request is handed out has a cost.
-    let has_costs = trace.coming.iter().any(|Reverse(request)| request.cost.is_some());
+    let has_costs = trace.coming.iter().map(|Reverse(request)| request).chain(&trace.in_order).any(|request| request.cost.is_some());
     let mut level = Level::new(config, patience, if has_costs { None } else { Some(Means::new()) });
     let mut end = 0;
     let mut coming = trace.next()?;

@@ -124,7 +124,7 @@ def headings(path):
     return {re.sub(r"[^\w\- ]", "", it.lower()).replace(" ", "-") for it in re.findall(r"^#+ (.*)$", prose(path), re.M)}
 
 
-everywhere = ["README.md", *sorted(os.path.relpath(os.path.join(folder, it), TOP) for folder, _, names in os.walk(os.path.join(TOP, "docs")) for it in names)]
+everywhere = ["README.md", *sorted(os.path.relpath(os.path.join(folder, it), TOP) for folder, _, names in os.walk(os.path.join(TOP, "docs")) for it in names if it.endswith(".md"))]
 links = 0
 for name in everywhere:
     for link in re.findall(r"\]\(([^)\s]+)\)", prose(os.path.join(TOP, name))):

@@ -14,8 +14,8 @@ files = Files()
 # the same draws each time; APF_SEED draws others
 seed = int(os.environ.get("APF_SEED", "1056"))
 EVENTS = int(os.environ.get("APF_EVENTS", "1000000"))
-# of each of the two programs, in KiB
-MOST_MEMORY = 65_536
+# of each of the two programs, in KiB: a log is not in the order of its arrivals, so both stores of the window are there
+MOST_MEMORY = 81_920
 makes = compiled(files, "long")
 print(f"seed {seed}")
 

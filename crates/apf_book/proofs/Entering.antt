@@ -125,7 +125,7 @@ module _ (laws : Laws) (stands : Stands) (v : LifeView) (s : LifeState) (is : Is
       (subst (λ (h : List Event). IsLegal (put v.hands r hand) v.limit h) (sym known.events_are) known.fair.0, known.fair.1)
       (subst (λ (h : List Event). EachNames (λ j. j ≢ r) h) (sym is.events_are) (names_others laws v.hands v.limit r v.history is.fair.0 comes.is_new))
 
-  pub life_enters : IsLifeOf (then_came (asked v r hand cost) (Enter r q)) (record { queues = t; holders = set s.holders (slot_of r) r; hand = s.hand; running = set s.running (slot_of r) None })
+  pub life_enters : IsLifeOf (then_came (asked v r hand cost) (Enter r q)) (record { queues = t; holders = set s.holders (slot_of r) r; hand = s.hand; known = s.known; running = set s.running (slot_of r) None })
   life_enters = record {
     queue_is = queues_after;
     in_slots = in_slots_after;

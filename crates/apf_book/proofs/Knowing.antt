@@ -74,11 +74,6 @@ pub heard_own : (both both' : Both) (found : Option Decision) → JoinedLoadsDec
 heard_own both both' None loads = ap (λ (b : Both). told_own b.pass) loads.5 ∙ none_or (told_own both.pass) loads.4
 heard_own both both' (Some decision) loads = ap (λ (b : Both). told_own b.pass) loads.5 ∙ put_here (told_of both.pass.knows.told) both.pass.number (Some decision)
 
--- a load of a decision word that is decided
-pub load_tells : (desk desk' : DeskRecord) (r : ℕ) (decision : Decision) → DeskLoadsDecision r desk (Some decision) desk' → LastTold desk.knows r decision desk'.knows
-load_tells desk desk' r decision loads =
-    subst (λ (d : DeskRecord). LastTold desk.knows r decision d.knows) (sym loads.3) (record { before = desk.knows; more = more_same desk.knows; found = Some decision; own = None; step = loads.1 })
-
 -- a joined load of a decision word that is decided
 pub joined_tells : (both both' : Both) (decision : Decision) → JoinedLoadsDecision both (Some decision) both' → LastTold both.desk.knows both.pass.number decision both'.desk.knows
 joined_tells both both' decision loads =

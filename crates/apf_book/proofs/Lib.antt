@@ -1,4 +1,3 @@
-pub mod Charging
 pub mod Opened
 pub mod Puts
 pub mod Knowing
@@ -7,12 +6,10 @@ pub mod Saying
 pub mod Agreeing
 pub mod Keeping
 pub mod Arriving
-pub mod Turning
 pub mod Stopped
 pub mod Dispatched
 pub mod Lists
-pub mod Ledgers
-pub mod Nexts
+pub mod Batches
 pub mod Running
 pub mod Noting
 pub mod Times

@@ -66,11 +66,11 @@ module _ (laws : Laws) (v : LifeView) (b : LifeBookView) (kept : IsLifeKept v b)
     -- it was refused, and not as full
     pub life_refused : (desk' : DeskToken) → Moves heard.desk r' (Some status_is.Away) desk'.desk → Says [] heard.desk.knows desk'.desk.knows → desk'.desk.held ≡ heard.desk.held → IsLifeKept v (record b { desk = desk' })
     life_refused desk' moves says held =
-        life_rekept v v (record b { desk = heard }) (record b { desk = desk' }) kept_heard moves.more kept_heard.no_queues refl (refl, refl) kept.of_life
-        (agreed_refused v.history (life_statuses laws v b kept) b.desk.desk heard.desk kept.agrees same more quiet r r' is is_new desk'.desk moves says held) kept.notes (asks_then v b.queues b.queues heard.desk.knows desk'.desk.knows refl moves.more kept_heard.asks)
+        life_rekept v v (record b { desk = heard }) (record b { desk = desk' }) kept_heard moves.more kept_heard.no_queues refl (refl, refl, refl) kept.of_life
+        (agreed_refused v.history (life_statuses laws v b kept) b.desk.desk heard.desk kept.agrees same more quiet r r' is is_new desk'.desk moves says held) kept.notes (λ none. asks_then v b.queues b.queues heard.desk.knows desk'.desk.knows refl moves.more (kept_heard.asks none))
 
     life_arrived : (b.desk.desk.knows.shape.response ≡ Reject → ⊥) → (v' : LifeView) (b' : LifeBookView) (e : Event) → request_of e ≡ r → v'.history ≡ e ∷ v.history → length v'.costs ≡ length v.costs → SameSlots b.queues b'.queues → IsLifeOf v' b'.queues → AreRecentEventsOf (e ∷ v.history) b'.notes
-        → Moves heard.desk r' (Some (makes e)) b'.desk.desk → Says ((r', makes e) ∷ []) heard.desk.knows b'.desk.desk.knows → b'.desk.desk.held ≡ heard.desk.held → makes e ≢ status_is.Struck → AreAsked (sizes_in v' b'.queues) b'.desk.desk.knows.trace v'.costs v'.hands v'.history → IsLifeKept v' b'
+        → Moves heard.desk r' (Some (makes e)) b'.desk.desk → Says ((r', makes e) ∷ []) heard.desk.knows b'.desk.desk.knows → b'.desk.desk.held ≡ heard.desk.held → makes e ≢ status_is.Struck → (b'.queues.known ≡ false → AreAsked (sizes_in v' b'.queues) b'.desk.desk.knows.trace v'.costs v'.hands v'.history) → IsLifeKept v' b'
     life_arrived has v' b' e of history costs holders queues notes moves says held other asks =
         life_rekept v v' (record b { desk = heard }) b' kept_heard moves.more (λ rejects. absurd (has (ap (λ (s : Shape). s.response) (sym more.shape) ∙ rejects))) costs holders queues
         (subst (λ (h : List Event). IsDeskOf h b'.desk.desk) (sym history)
@@ -78,21 +78,21 @@ module _ (laws : Laws) (v : LifeView) (b : LifeBookView) (kept : IsLifeKept v b)
         (subst (λ (h : List Event). AreRecentEventsOf h b'.notes) (sym history) notes) asks
 
     -- what it asks for, and what the others asked for
-    asks_arrived : (b' : LifeBookView) (hand : List ℕ) (cost : ℕ) → b'.queues.hand ≡ b.queues.hand → KnowsMore heard.desk.knows b'.desk.desk.knows → r < length v.costs → IsAskedBy (sizes_in v b'.queues) b'.desk.desk.knows.trace hand cost r
+    asks_arrived : (b' : LifeBookView) (hand : List ℕ) (cost : ℕ) → b.queues.known ≡ false → b'.queues.hand ≡ b.queues.hand → KnowsMore heard.desk.knows b'.desk.desk.knows → r < length v.costs → IsAskedBy (sizes_in v b'.queues) b'.desk.desk.knows.trace hand cost r
         → IsAskedBy (sizes_in v b'.queues) b'.desk.desk.knows.trace (put v.hands r hand r) (width (set v.costs r cost) r) r × AreAsked (sizes_in v b'.queues) b'.desk.desk.knows.trace (set v.costs r cost) (put v.hands r hand) v.history
-    asks_arrived b' hand cost same knows inside by = (
+    asks_arrived b' hand cost none same knows inside by = (
       asks_here (sizes_in v b'.queues) b'.desk.desk.knows.trace v.costs v.hands r hand cost inside by,
-      asks_else (sizes_in v b'.queues) b'.desk.desk.knows.trace v.costs v.hands r hand cost v.history is_new (asks_then v b.queues b'.queues heard.desk.knows b'.desk.desk.knows same knows kept_heard.asks),
+      asks_else (sizes_in v b'.queues) b'.desk.desk.knows.trace v.costs v.hands r hand cost v.history is_new (asks_then v b.queues b'.queues heard.desk.knows b'.desk.desk.knows same knows (kept_heard.asks none)),
     )
 
     -- it entered
     pub life_entered : (b.desk.desk.knows.shape.response ≡ Reject → ⊥) → (b' : LifeBookView) (hand : List ℕ) (q cost : ℕ) → SameSlots b.queues b'.queues → IsLifeOf (then_came (asked v r hand cost) (Enter r q)) b'.queues → AreRecentEventsOf (Enter r q ∷ v.history) b'.notes
-        → Moves heard.desk r' (Some status_is.Waits) b'.desk.desk → Says ((r', status_is.Waits) ∷ []) heard.desk.knows b'.desk.desk.knows → b'.desk.desk.held ≡ heard.desk.held → IsAskedBy (sizes_in v b'.queues) b'.desk.desk.knows.trace hand cost r → IsLifeKept (then_came (asked v r hand cost) (Enter r q)) b'
+        → Moves heard.desk r' (Some status_is.Waits) b'.desk.desk → Says ((r', status_is.Waits) ∷ []) heard.desk.knows b'.desk.desk.knows → b'.desk.desk.held ≡ heard.desk.held → (b'.queues.known ≡ false → IsAskedBy (sizes_in v b'.queues) b'.desk.desk.knows.trace hand cost r) → IsLifeKept (then_came (asked v r hand cost) (Enter r q)) b'
     life_entered has b' hand q cost holders queues notes moves says held by =
-        life_arrived has (then_came (asked v r hand cost) (Enter r q)) b' (Enter r q) refl refl (length-set v.costs r cost) holders queues notes moves says held (λ e. cc) (asks_arrived b' hand cost holders.1 moves.more (let n = queues.names_requests.0 in let l = length-set v.costs r cost in omega arith) by)
+        life_arrived has (then_came (asked v r hand cost) (Enter r q)) b' (Enter r q) refl refl (length-set v.costs r cost) holders queues notes moves says held (λ e. cc) (λ none. asks_arrived b' hand cost (sym holders.2 ∙ none) holders.1 moves.more (let n = queues.names_requests.0 in let l = length-set v.costs r cost in omega arith) (by none))
 
     -- it was refused as full
     pub life_full : (b.desk.desk.knows.shape.response ≡ Reject → ⊥) → (b' : LifeBookView) (hand : List ℕ) (q cost : ℕ) → SameSlots b.queues b'.queues → IsLifeOf (then_came (asked v r hand cost) (Full r q)) b'.queues → AreRecentEventsOf (Full r q ∷ v.history) b'.notes
-        → Moves heard.desk r' (Some status_is.Full) b'.desk.desk → Says ((r', status_is.Full) ∷ []) heard.desk.knows b'.desk.desk.knows → b'.desk.desk.held ≡ heard.desk.held → IsAskedBy (sizes_in v b'.queues) b'.desk.desk.knows.trace hand cost r → IsLifeKept (then_came (asked v r hand cost) (Full r q)) b'
+        → Moves heard.desk r' (Some status_is.Full) b'.desk.desk → Says ((r', status_is.Full) ∷ []) heard.desk.knows b'.desk.desk.knows → b'.desk.desk.held ≡ heard.desk.held → (b'.queues.known ≡ false → IsAskedBy (sizes_in v b'.queues) b'.desk.desk.knows.trace hand cost r) → IsLifeKept (then_came (asked v r hand cost) (Full r q)) b'
     life_full has b' hand q cost holders queues notes moves says held by =
-        life_arrived has (then_came (asked v r hand cost) (Full r q)) b' (Full r q) refl refl (length-set v.costs r cost) holders queues notes moves says held (λ e. cc) (asks_arrived b' hand cost holders.1 moves.more (let n = queues.names_requests.0 in let l = length-set v.costs r cost in omega arith) by)
+        life_arrived has (then_came (asked v r hand cost) (Full r q)) b' (Full r q) refl refl (length-set v.costs r cost) holders queues notes moves says held (λ e. cc) (λ none. asks_arrived b' hand cost (sym holders.2 ∙ none) holders.1 moves.more (let n = queues.names_requests.0 in let l = length-set v.costs r cost in omega arith) (by none))

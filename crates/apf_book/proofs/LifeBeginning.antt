@@ -35,7 +35,7 @@ life_begins v desk queues notes many limit fresh slots o costs of nothing = reco
   one_cost_each = costs;
   one_holder_each = slots;
   no_queues = λ rejects. o.nothing;
-  asks = subst (λ (h : List Event). AreAsked (sizes_in v queues) desk.desk.knows.trace v.costs v.hands h) (sym o.nothing) tt;
+  asks = λ none. subst (λ (h : List Event). AreAsked (sizes_in v queues) desk.desk.knows.trace v.costs v.hands h) (sym o.nothing) tt;
 }
 
 -- a history in which nothing happened yet, of a gate of this shape

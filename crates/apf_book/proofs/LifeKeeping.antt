@@ -35,7 +35,7 @@ alone_opened shape desk r alone = alone
 
 module _ (v v' : LifeView) (b b' : LifeBookView) (kept : IsLifeKept v b) (more : KnowsMore b.desk.desk.knows b'.desk.desk.knows) where
   -- what a book keeps beside its history
-  pub life_rekept : (b.desk.desk.knows.shape.response ≡ Reject → v'.history ≡ []) → length v'.costs ≡ length v.costs → SameSlots b.queues b'.queues → IsLifeOf v' b'.queues → IsDeskOf v'.history b'.desk.desk → AreRecentEventsOf v'.history b'.notes → AreAsked (sizes_in v' b'.queues) b'.desk.desk.knows.trace v'.costs v'.hands v'.history → IsLifeKept v' b'
+  pub life_rekept : (b.desk.desk.knows.shape.response ≡ Reject → v'.history ≡ []) → length v'.costs ≡ length v.costs → SameSlots b.queues b'.queues → IsLifeOf v' b'.queues → IsDeskOf v'.history b'.desk.desk → AreRecentEventsOf v'.history b'.notes → (b'.queues.known ≡ false → AreAsked (sizes_in v' b'.queues) b'.desk.desk.knows.trace v'.costs v'.hands v'.history) → IsLifeKept v' b'
   life_rekept logs costs holders of agrees notes asks = record {
     of_life = of;
     agrees = agrees;
@@ -50,12 +50,12 @@ module _ (v v' : LifeView) (b b' : LifeBookView) (kept : IsLifeKept v b) (more :
 pub life_quiet : (v : LifeView) (b : LifeBookView) (desk' : DeskToken) → IsLifeKept v b → (desk'.desk.services ≡ b.desk.desk.services) × (desk'.desk.held ≡ b.desk.desk.held) → KnowsMore b.desk.desk.knows desk'.desk.knows → Says [] b.desk.desk.knows desk'.desk.knows
     → IsLifeKept v (record b { desk = desk' })
 life_quiet v b desk' kept same more says =
-    life_rekept v v b (record b { desk = desk' }) kept more kept.no_queues refl (refl, refl) kept.of_life (agreed_quiet b.desk.desk desk'.desk v.history kept.agrees same more says) kept.notes (asks_then v b.queues b.queues b.desk.desk.knows desk'.desk.knows refl more kept.asks)
+    life_rekept v v b (record b { desk = desk' }) kept more kept.no_queues refl (refl, refl, refl) kept.of_life (agreed_quiet b.desk.desk desk'.desk v.history kept.agrees same more says) kept.notes (λ none. asks_then v b.queues b.queues b.desk.desk.knows desk'.desk.knows refl more (kept.asks none))
 
 -- the history has an event more, which the Desk's steps made
 pub life_came : (v v' : LifeView) (b b' : LifeBookView) (e : Event) → IsLifeKept v b → (b.desk.desk.knows.shape.response ≡ Reject → ⊥) → v'.history ≡ e ∷ v.history → length v'.costs ≡ length v.costs → SameSlots b.queues b'.queues → IsLifeOf v' b'.queues → AreRecentEventsOf (e ∷ v.history) b'.notes
     → Moves b.desk.desk (request_of e) (Some (makes e)) b'.desk.desk → Says (saying e ∷ []) b.desk.desk.knows b'.desk.desk.knows → b'.desk.desk.held ≡ None
-    → (makes e ≡ status_is.Struck → told_of b'.desk.desk.knows.told (request_of e) ≡ Some Cancelled) → AreAsked (sizes_in v' b'.queues) b'.desk.desk.knows.trace v'.costs v'.hands v'.history → IsLifeKept v' b'
+    → (makes e ≡ status_is.Struck → told_of b'.desk.desk.knows.told (request_of e) ≡ Some Cancelled) → (b'.queues.known ≡ false → AreAsked (sizes_in v' b'.queues) b'.desk.desk.knows.trace v'.costs v'.hands v'.history) → IsLifeKept v' b'
 life_came v v' b b' e kept queues history costs holders of notes moves says held told asks =
     life_rekept v v' b b' kept moves.more (λ rejects. absurd (queues rejects)) costs holders of
     (subst (λ (h : List Event). IsDeskOf h b'.desk.desk) (sym history) (agreed_after b.desk.desk b'.desk.desk v.history e kept.agrees moves says held told))
@@ -106,4 +106,4 @@ module _ (laws : Laws) (v : LifeView) (b : LifeBookView) (kept : IsLifeKept v b)
   -- a head that waits still
   pub life_head : (desk' : DeskToken) (q r : ℕ) → Contains (waiting v.history q) r → Moves b.desk.desk r (Some status_is.Waits) desk'.desk → Says [] b.desk.desk.knows desk'.desk.knows → desk'.desk.held ≡ None → IsLifeKept v (record b { desk = desk' })
   life_head desk' q r member moves says held =
-      life_rekept v v b (record b { desk = desk' }) kept moves.more kept.no_queues refl (refl, refl) kept.of_life (agreed_head v.history life_statuses b.desk.desk desk'.desk q r kept.agrees member moves says held) kept.notes (asks_then v b.queues b.queues b.desk.desk.knows desk'.desk.knows refl moves.more kept.asks)
+      life_rekept v v b (record b { desk = desk' }) kept moves.more kept.no_queues refl (refl, refl, refl) kept.of_life (agreed_head v.history life_statuses b.desk.desk desk'.desk q r kept.agrees member moves says held) kept.notes (λ none. asks_then v b.queues b.queues b.desk.desk.knows desk'.desk.knows refl moves.more (kept.asks none))

@@ -134,7 +134,7 @@ module _ (v : LifeView) (s : LifeState) (is : IsLifeOf v s) where
     charged_else j ne = ap (λ (b : Bool). cond b (Some (record { queue = c.queue; amount = width v.costs (slice_index s.holders c.request) })) (charge_of v.costs v.log j)) (ne_eqb (slice_index s.holders c.request) j (λ e. ne (sym e)))
 
     -- the request that holds the chosen slot is dispatched
-    pub life_dispatches : IsLifeOf (then_came v (Dispatch (slice_index s.holders c.request) c.queue)) (record { queues = t; holders = s.holders; hand = s.hand; running = set s.running c.request (Some (record { queue = c.queue; amount = c.cost })) })
+    pub life_dispatches : IsLifeOf (then_came v (Dispatch (slice_index s.holders c.request) c.queue)) (record { queues = t; holders = s.holders; hand = s.hand; known = s.known; running = set s.running c.request (Some (record { queue = c.queue; amount = c.cost })) })
     life_dispatches = record {
       queue_is = queues_after;
       in_slots = λ p slot k. is.in_slots p slot (stood p slot k);

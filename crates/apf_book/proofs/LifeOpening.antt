@@ -1,5 +1,5 @@
 -- How queues of slots begin.
-use Rattle.std.proofs.Common.{◌≡◌, ℕ, zero, suc, List, [], length, get_or, replicate, Option, None, refl, sym, ap, ◌∙◌, subst, arith}
+use Rattle.std.proofs.Common.{◌≡◌, ℕ, Bool, zero, suc, List, [], length, get_or, replicate, Option, None, refl, sym, ap, ◌∙◌, subst, arith}
 use Rattle.std.specs.Prelude.{Contains}
 use Rattle.std.proofs.lemmas.List.{length-replicate}
 use Rattle.apf_gate.specs.Slots.{slot_of}
@@ -23,9 +23,9 @@ none_there zero i = refl
 none_there (suc n) zero = refl
 none_there (suc n) (suc i) = none_there n i
 
-pub life_opens : (v : LifeView) (s : QueuesView) (holders : List ℕ) (running : List (Option Charge)) (queues limit slots hand places : ℕ) → s ≡ opening_view queues limit slots → numbers_in s ≡ opening_numbers queues → holders ≡ replicate slots 0 → running ≡ replicate places None
-    → IsOpening v queues limit → IsLifeOf v (record { queues = s; holders = holders; hand = hand; running = running })
-life_opens v s holders running queues limit slots hand places opening start held none o =
+pub life_opens : (v : LifeView) (s : QueuesView) (holders : List ℕ) (running : List (Option Charge)) (queues limit slots hand : ℕ) (known : Bool) (places : ℕ) → s ≡ opening_view queues limit slots → numbers_in s ≡ opening_numbers queues → holders ≡ replicate slots 0 → running ≡ replicate places None
+    → IsOpening v queues limit → IsLifeOf v (record { queues = s; holders = holders; hand = hand; known = known; running = running })
+life_opens v s holders running queues limit slots hand known places opening start held none o =
     let count : length holders ≡ slots = ap (λ (x : List ℕ). length x) held ∙ length-replicate slots 0 in
     let empty : (q : ℕ) → queue_in s q ≡ [] = λ (q : ℕ). ap (λ (x : QueuesView). queue_in x q) opening ∙ no_queue queues q in
     let same : opening_numbers queues ≡ charged_numbers v.queues v.costs v.log = ap opening_numbers (sym o.queues_are) ∙ sym (ap (charged_numbers v.queues v.costs) o.no_log) in

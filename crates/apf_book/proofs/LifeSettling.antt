@@ -47,7 +47,7 @@ module _ (stands : Stands) (v : LifeView) (s : LifeState) (is : IsLifeOf v s) (r
     same_queue p = ap (λ (x : List (List ℕ)). get_or x p []) d.queues
 
     -- nothing but a number changes, and what is kept of one slot
-    pub life_settles : IsLifeOf (then_settled v r c.queue c.amount m) (record { queues = t; holders = s.holders; hand = s.hand; running = set s.running (slot_of r) None })
+    pub life_settles : IsLifeOf (then_settled v r c.queue c.amount m) (record { queues = t; holders = s.holders; hand = s.hand; known = s.known; running = set s.running (slot_of r) None })
     life_settles = record {
       queue_is = λ p. ap (holding s.holders) (same_queue p) ∙ is.queue_is p;
       in_slots = λ p slot k. is.in_slots p slot (subst (λ (xs : List ℕ). Contains xs slot) (same_queue p) k);
@@ -71,7 +71,7 @@ module _ (stands : Stands) (v : LifeView) (s : LifeState) (is : IsLifeOf v s) (r
       unsettled = λ none. absurd (kept_settles s r c kept (still_unsettled s.running (set s.running (slot_of r) None) (length-set s.running (slot_of r) None) none));
     }
 
-    pub life_spends : IsLifeOf (then_spent v r c.queue c.amount m) (record { queues = t; holders = s.holders; hand = s.hand; running = set s.running (slot_of r) (Some (record { queue = c.queue; amount = m })) })
+    pub life_spends : IsLifeOf (then_spent v r c.queue c.amount m) (record { queues = t; holders = s.holders; hand = s.hand; known = s.known; running = set s.running (slot_of r) (Some (record { queue = c.queue; amount = m })) })
     life_spends = record {
       queue_is = life_settles.queue_is;
       in_slots = life_settles.in_slots;
@@ -97,29 +97,29 @@ module _ (stands : Stands) (v : LifeView) (s : LifeState) (is : IsLifeOf v s) (r
 
 -- what a settlement comes to, of every log that the queues are of
 pub settles_one : Stands → (s : LifeState) (r : ℕ) (c : Charge) → charge_in s r ≡ Some c → (m : ℕ) (t : QueuesView) (running : List (Option Charge)) → running ≡ set s.running (slot_of r) None
-    → Recharges s.queues t c.queue c.amount m → MaySettle s.queues c.queue → m ≤ 2 ^ 46 → SettlesOne s r m (record { queues = t; holders = s.holders; hand = s.hand; running = running })
+    → Recharges s.queues t c.queue c.amount m → MaySettle s.queues c.queue → m ≤ 2 ^ 46 → SettlesOne s r m (record { queues = t; holders = s.holders; hand = s.hand; known = s.known; running = running })
 settles_one stands s r c kept m t running is d early low = record {
   charge = c;
   was = kept;
   by_log = λ v of. charged_by_log stands v s of r c kept;
-  settles = λ v of. subst (λ (x : List (Option Charge)). IsLifeOf (then_settled v r c.queue c.amount m) (record { queues = t; holders = s.holders; hand = s.hand; running = x })) (sym is) (life_settles stands v s of r c kept m t d early low);
+  settles = λ v of. subst (λ (x : List (Option Charge)). IsLifeOf (then_settled v r c.queue c.amount m) (record { queues = t; holders = s.holders; hand = s.hand; known = s.known; running = x })) (sym is) (life_settles stands v s of r c kept m t d early low);
 }
 
 pub spends_one : Stands → (s : LifeState) (r : ℕ) (c : Charge) → charge_in s r ≡ Some c → (m : ℕ) (t : QueuesView) (running : List (Option Charge)) → running ≡ set s.running (slot_of r) (Some (record { queue = c.queue; amount = m })) → c.amount < m
-    → Recharges s.queues t c.queue c.amount m → MaySettle s.queues c.queue → m ≤ 2 ^ 46 → SpendsOne s r m (record { queues = t; holders = s.holders; hand = s.hand; running = running })
+    → Recharges s.queues t c.queue c.amount m → MaySettle s.queues c.queue → m ≤ 2 ^ 46 → SpendsOne s r m (record { queues = t; holders = s.holders; hand = s.hand; known = s.known; running = running })
 spends_one stands s r c kept m t running is more d early low = record {
   charge = c;
   was = kept;
   by_log = λ v of. charged_by_log stands v s of r c kept;
   more = more;
-  spends = λ v of. subst (λ (x : List (Option Charge)). IsLifeOf (then_spent v r c.queue c.amount m) (record { queues = t; holders = s.holders; hand = s.hand; running = x })) (sym is) (life_spends stands v s of r c kept m t d early low);
+  spends = λ v of. subst (λ (x : List (Option Charge)). IsLifeOf (then_spent v r c.queue c.amount m) (record { queues = t; holders = s.holders; hand = s.hand; known = s.known; running = x })) (sym is) (life_spends stands v s of r c kept m t d early low);
 }
 
 -- a book that is of another log of the same history
 pub book_charged : (v : LifeView) (log : List LogEntry) (b : LifeBookView) (queues : LifeState) → IsLifeKept v b → SameSlots b.queues queues → IsLifeOf (record v { log = log }) queues → IsLifeKept (record v { log = log }) (record b { queues = queues })
 book_charged v log b queues kept slots of =
     let more = more_same b.desk.desk.knows in
-    life_rekept v (record v { log = log }) b (record b { queues = queues }) kept more kept.no_queues refl slots of kept.agrees kept.notes (asks_then v b.queues queues b.desk.desk.knows b.desk.desk.knows slots.1 more kept.asks)
+    life_rekept v (record v { log = log }) b (record b { queues = queues }) kept more kept.no_queues refl slots of kept.agrees kept.notes (λ none. asks_then v b.queues queues b.desk.desk.knows b.desk.desk.knows slots.1 more (kept.asks (sym slots.2 ∙ none)))
 
 -- what the queues' settlement makes of a book
 pub settles_life : (v : LifeView) (b : LifeBookView) (r m : ℕ) (answer : Bool) (queues : LifeState) → IsLifeKept v b → SameSlots b.queues queues

@@ -105,7 +105,7 @@ module _ (v : LifeView) (s : LifeState) (is : IsLifeOf v s) (r : ℕ) where
       | inr ne ↦ subst (λ (xs : List ℕ). Contains xs slot) (else p ne) k
     ]
 
-    pub life_strikes : IsLifeOf (then_came v (Strike r q)) (record { queues = struck s.queues q (slot_of r); holders = s.holders; hand = s.hand; running = s.running })
+    pub life_strikes : IsLifeOf (then_came v (Strike r q)) (record { queues = struck s.queues q (slot_of r); holders = s.holders; hand = s.hand; known = s.known; running = s.running })
     life_strikes = record {
       queue_is = queues_after;
       in_slots = λ p slot k. is.in_slots p slot (stood p slot k);
@@ -135,10 +135,10 @@ strike_none (Some p) s r stood = tt
 
 pub strike_some : (laws : Laws) (o : Option ℕ) (s : LifeState) (t : QueuesView) (r : ℕ) → slice_index s.holders (slot_of r) ≡ r
     → ((q : ℕ) → (o ≡ Some q) ↔ Contains (queue_in s.queues q) (slot_of r)) → IfSome o (λ q. t ≡ struck s.queues q (slot_of r))
-    → IfSome o (λ q. (v : LifeView) → IsLifeOf v s → IsLifeOf (then_came v (Strike r q)) (record { queues = t; holders = s.holders; hand = s.hand; running = s.running }))
+    → IfSome o (λ q. (v : LifeView) → IsLifeOf v s → IsLifeOf (then_came v (Strike r q)) (record { queues = t; holders = s.holders; hand = s.hand; known = s.known; running = s.running }))
 strike_some laws None s t r holds stood e = tt
 strike_some laws (Some q) s t r holds stood e = λ v is.
-    subst (λ (x : QueuesView). IsLifeOf (then_came v (Strike r q)) (record { queues = x; holders = s.holders; hand = s.hand; running = s.running })) (sym e)
+    subst (λ (x : QueuesView). IsLifeOf (then_came v (Strike r q)) (record { queues = x; holders = s.holders; hand = s.hand; known = s.known; running = s.running })) (sym e)
     (life_strikes v s is r laws q holds ((stood q).0 (refl {a = Some q})))
 
 -- a request that asks for what is known of it changes nothing

@@ -59,16 +59,12 @@ none_first h q r nothing first = let bad : None ≡ Some r = subst (λ (h' : Lis
 -- it was dispatched
 pub life_dispatched : (v : LifeView) (b b' : LifeBookView) (r q : ℕ) → IsLifeKept v b → SameSlots b.queues b'.queues → IsLifeOf (then_came v (Dispatch r q)) b'.queues → AreRecentEventsOf (Dispatch r q ∷ v.history) b'.notes
     → Moves b.desk.desk r (Some status_is.Dispatched) b'.desk.desk → Says ((r, status_is.Dispatched) ∷ []) b.desk.desk.knows b'.desk.desk.knows → b'.desk.desk.held ≡ None → IsLifeKept (then_came v (Dispatch r q)) b'
-life_dispatched v b b' r q kept holders of notes moves says held = life_came v (then_came v (Dispatch r q)) b b' (Dispatch r q) kept (λ rejects. none_first v.history q r (kept.no_queues rejects) of.fair.0.0) refl refl holders of notes moves says held (λ e. absurd (cc)) (asks_then v b.queues b'.queues b.desk.desk.knows b'.desk.desk.knows holders.1 moves.more kept.asks)
+life_dispatched v b b' r q kept holders of notes moves says held = life_came v (then_came v (Dispatch r q)) b b' (Dispatch r q) kept (λ rejects. none_first v.history q r (kept.no_queues rejects) of.fair.0.0) refl refl holders of notes moves says held (λ e. absurd (cc)) (λ none. asks_then v b.queues b'.queues b.desk.desk.knows b'.desk.desk.knows holders.1 moves.more (kept.asks (sym holders.2 ∙ none)))
 
 -- it was struck
 pub life_struck : (v : LifeView) (b b' : LifeBookView) (r q : ℕ) → IsLifeKept v b → SameSlots b.queues b'.queues → IsLifeOf (then_came v (Strike r q)) b'.queues → AreRecentEventsOf (Strike r q ∷ v.history) b'.notes
     → Moves b.desk.desk r (Some status_is.Struck) b'.desk.desk → Says ((r, status_is.Struck) ∷ []) b.desk.desk.knows b'.desk.desk.knows → b'.desk.desk.held ≡ None → told_of b'.desk.desk.knows.told r ≡ Some Cancelled → IsLifeKept (then_came v (Strike r q)) b'
-life_struck v b b' r q kept holders of notes moves says held told = life_came v (then_came v (Strike r q)) b b' (Strike r q) kept (λ rejects. none_waits v.history q r (kept.no_queues rejects) of.fair.0.0) refl refl holders of notes moves says held (λ e. told) (asks_then v b.queues b'.queues b.desk.desk.knows b'.desk.desk.knows holders.1 moves.more kept.asks)
-
--- what the turns so far appended to a history that the book was of
-pub served_none : (v : LifeView) (b : LifeBookView) → IsLifeKept v b → ServesSome v 0 b
-served_none v b kept = record { events = []; kept = kept; servings = tt; dispatches = λ few. refl }
+life_struck v b b' r q kept holders of notes moves says held told = life_came v (then_came v (Strike r q)) b b' (Strike r q) kept (λ rejects. none_waits v.history q r (kept.no_queues rejects) of.fair.0.0) refl refl holders of notes moves says held (λ e. told) (λ none. asks_then v b.queues b'.queues b.desk.desk.knows b'.desk.desk.knows holders.1 moves.more (kept.asks (sym holders.2 ∙ none)))
 
 pub served_dispatch : (v : LifeView) (b b' : LifeBookView) (count r q : ℕ) (far : ServesSome v count b) → IsLifeKept (then_came (then_came_all far.events v) (Dispatch r q)) b' → ServesSome v ((count + 1) % 18446744073709551616) b'
 served_dispatch v b b' count r q far kept = record {
@@ -117,6 +113,7 @@ same_book_then a b c first then = record {
   queues = then.queues ∙ first.queues;
   room = then.room ∙ first.room;
   hand = then.hand ∙ first.hand;
+  known = then.known ∙ first.known;
   places = then.places ∙ first.places;
 }
 

@@ -127,7 +127,3 @@ refuse_spares both both' ConcurrencyLimit may (inl wrote) away = absurd may
 refuse_spares both both' decision may (inr missed) away =
     (moves_to both.desk both'.desk both.pass.number (handed_over (joined_service both)) (ap (λ (b : Both). b.desk.services) missed.4) (subst (λ (b : Both). KnowsMore both.desk.knows b.desk.knows) (sym missed.4) missed.1.more)).here
     ∙ (over_logged (joined_service both) ∙ away)
-
--- a request of which the log knows nothing was not refused as full
-pub away_not_full : (x : Service) → logged x ≡ Some status_is.Away → x ≢ RefusedFull
-away_not_full x away is = let bad : ◌≡◌ {A = Option Status} (Some status_is.Away) (Some status_is.Full) = sym away ∙ ap logged is in cc

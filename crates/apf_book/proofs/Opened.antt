@@ -1,5 +1,5 @@
 -- The laws of histories, opened.
-use Rattle.apf_book.specs.Histories.{Laws, LegalLaws, Balanced, FairLaw, Isolated, IsolationLaw, Waits, WaitLaws, Stands, StandingLaw}
+use Rattle.apf_book.specs.Histories.{Laws, LegalLaws, Balanced, FairLaw, Isolated, IsolationLaw, Waits, WaitLaws, Stands, StandingLaw, Unsettled, UnsettledLaw}
 
 pub opened : LegalLaws → Laws
 unfolding LegalLaws
@@ -20,3 +20,7 @@ waits laws = laws
 pub stands : StandingLaw → Stands
 unfolding StandingLaw
 stands law = law
+
+pub unsettled : UnsettledLaw → Unsettled
+unfolding UnsettledLaw
+unsettled law = law

@@ -42,15 +42,9 @@ level_says known known' level own saw = record { is = ap (λ (k : Knowledge). sa
 pub decision_says : (known known' : Knowledge) (r : ℕ) (found left : Option Decision) (own : Option Move) → SawDecision OfDesk known r found left own known' → Says (said_by own) known known'
 decision_says known known' r found left own saw = record { is = ap (λ (k : Knowledge). sayings k.trace) saw.is_after ∙ ap (λ (xs : List (ℕ × Status)). said_by own ++ xs) (none_say saw.between known.trace saw.of_others) }
 
-pub says_same : (known : Knowledge) → Says [] known known
-says_same known = record { is = refl }
-
 -- steps that say nothing before others, and after them
 pub quiet_then : (new : List (ℕ × Status)) (a b c : Knowledge) → Says [] a b → Says new b c → Says new a c
 quiet_then new a b c first then = record { is = then.is ∙ ap (λ (xs : List (ℕ × Status)). new ++ xs) first.is }
-
-pub then_quiet : (new : List (ℕ × Status)) (a b c : Knowledge) → Says new a b → Says [] b c → Says new a c
-then_quiet new a b c first then = record { is = then.is ∙ first.is }
 
 -- the Desk's own steps
 pub loads_level : (desk desk' : DeskRecord) (level : Level) → DeskLoadsLevel desk level desk' → Says [] desk.knows desk'.knows

@@ -1,20 +1,17 @@
 -- How large the numbers of virtual time can be.
-use Rattle.std.proofs.Common.{◌≡◌, ◌≢◌, ℕ, zero, suc, ◌+◌, ◌-◌, ◌*◌, ◌^◌, ◌<◌, ◌≤◌, inl, inr, Bool, List, [], ◌∷◌, length, refl, ap, ◌∙◌, subst, sym, arith}
-use Rattle.std.specs.Prelude.{max, count_by, slice_index}
-use Rattle.std.proofs.lemmas.Bool.{cases_eq, cases_lt}
-use Rattle.std.proofs.lemmas.List.{get_or_past}
+use Rattle.std.proofs.Common.{◌≡◌, ◌≢◌, ℕ, zero, suc, ◌+◌, ◌-◌, ◌*◌, ◌^◌, ◌<◌, ◌≤◌, ◌++◌, not, inl, inr, Bool, List, [], ◌∷◌, length, refl, ap, ◌∙◌, subst, sym, arith}
+use Rattle.std.specs.Prelude.{max, count_by, slice_index, filter, if◌then◌else◌}
+use Rattle.std.proofs.lemmas.Bool.{cases_eq, cases_lt, ne_eqb}
 use Rattle.apf_words.specs.Limits.{max_cost}
 use Rattle.apf_history.specs.declared.events.Event.{Event}
 use Rattle.apf_history.specs.declared.events.Event.TheVariants.{Enter, Full, Dispatch, Strike}
 use Rattle.apf_history.specs.Tally.{tally}
 use Rattle.apf_model.specs.World.{put, width}
-use Rattle.apf_model.specs.History.{waiting}
+use Rattle.apf_model.specs.History.{NamesQueues, entered, has_left, waiting}
 use Rattle.apf_model.specs.Outcome.{is_enter, is_full, is_dispatch, is_strike, stats_of}
 use Rattle.apf_model.specs.Fair.{Numbers, after_enter, after_dispatch, numbers, widest}
 use Rattle.apf_model.specs.Charged.{after_charge}
-use Rattle.apf_queue.specs.View.{QueuesView, HasTime}
-use Rattle.apf_book.specs.LedgerView.{LedgerView, hand_in, AreSmall}
-use Rattle.apf_book.specs.LedgerKept.{AreOfLog}
+use Rattle.apf_book.specs.LedgerView.{LedgerView, hand_in, IsLogOf, AreSmall}
 use Rattle.apf_book.specs.Life.{AreWithin, life_most}
 use Rattle.apf_book.specs.Histories.{Laws}
 use Rattle.apf_book.proofs.Puts.{put_here, put_else}
@@ -123,7 +120,16 @@ times_le : (n m k : ℕ) → n ≤ m → n * k ≤ m * k
 times_le n m zero l = omega arith
 times_le n m (suc k) l = let b = times_le n m k l in omega arith
 
-module _ (laws : Laws) (v : LedgerView) (s : QueuesView) (marks : List Bool) (capacity : ℕ) (is : AreOfLog v s marks capacity) where
+-- nobody enters a queue that no event names
+nobody_there : (deck : ℕ) (h : List Event) → NamesQueues deck h → (q : ℕ) → deck ≤ q → entered h q ≡ []
+nobody_there deck [] names q past = refl
+nobody_there deck (Enter r p ∷ h) names q past =
+    ap (λ (b : Bool). if b then entered h q ++ r ∷ [] else entered h q) (ne_eqb p q (λ e. (let low = names.0 in omega arith))) ∙ nobody_there deck h names.1 q past
+nobody_there deck (Full r p ∷ h) names q past = nobody_there deck h names.1 q past
+nobody_there deck (Dispatch r p ∷ h) names q past = nobody_there deck h names.1 q past
+nobody_there deck (Strike r p ∷ h) names q past = nobody_there deck h names.1 q past
+
+module _ (laws : Laws) (v : LedgerView) (is : IsLogOf v) where
   -- there are two events of each request that was dispatched, and one of each that waits
   few_dispatched : 2 * count_by is_dispatch v.history + (stats_of v.sizes.deck v.history).waiting ≤ 2 * length v.costs
   few_dispatched =
@@ -143,20 +149,11 @@ module _ (laws : Laws) (v : LedgerView) (s : QueuesView) (marks : List Bool) (ca
   few_times : (n m : ℕ) → n ≤ m → n * widest v.costs ≤ m * widest v.costs
   few_times n m l = times_le n m (widest v.costs) l
 
-  -- virtual time may go on in each queue
-  pub has_time : (q : ℕ) → HasTime s q
-  has_time q =
-      let d = few_dispatched in let k = is.few in
-      let e : slice_index s.next q ≡ (numbers v.sizes.deck v.costs v.history).next q = ap (λ (n : Numbers). n.next q) is.numbers_are in
-      let b = times.next q in
-      let t = few_times (count_by is_dispatch v.history) 10000 (omega arith) in let c = low in
-      omega arith
-
   -- who waits is counted
   some_waits : (q : ℕ) → waiting v.history q ≢ [] → 1 ≤ (stats_of v.sizes.deck v.history).waiting
-  some_waits q some = elim (cases_lt q (length s.queues)) [
-    | inl l ↦ let a = in_tally (λ p. length (waiting v.history p)) v.sizes.deck q (let d = is.deck in omega arith) in let b = some_length (waiting v.history q) some in omega arith
-    | inr past ↦ absurd (some (sym (is.queue_is q) ∙ get_or_past s.queues q [] past))
+  some_waits q some = elim (cases_lt q v.sizes.deck) [
+    | inl l ↦ let a = in_tally (λ p. length (waiting v.history p)) v.sizes.deck q l in let b = some_length (waiting v.history q) some in omega arith
+    | inr past ↦ absurd (some (ap (filter (λ (r : ℕ). not (has_left v.history r))) (nobody_there v.sizes.deck v.history is.names_queues q past)))
   ]
 
   pub small : AreSmall v

@@ -32,7 +32,7 @@ pub record RacedSoFar (book : LifeBookView) (token : PassToken) (book' : LifeBoo
 
 pub none_yet : (book : LifeBookView) (token : PassToken) → IsNewTo book token → RacedSoFar book token book token
 none_yet book token new = record {
-  same = record { gate = refl; more = more_same book.desk.desk.knows; queues = refl; room = refl; hand = refl; places = refl };
+  same = record { gate = refl; more = more_same book.desk.desk.knows; queues = refl; room = refl; hand = refl; known = refl; places = refl };
   request = record { pass = refl; number = refl };
   history = λ v is. is;
   is_new = new;
@@ -51,9 +51,9 @@ raced_then a s b t c u far same request heard raced = record {
 }
 
 -- what it asked for it asks for still
-pub asked_again : (a : LifeBookView) (s : PassToken) (b : LifeBookView) (t : PassToken) (hand : List ℕ) (cost : ℕ) → RacedSoFar a s b t → IsAskedBy (sizes_of a.queues) s.pass.knows.trace hand cost s.pass.number → IsAskedBy (sizes_of b.queues) t.pass.knows.trace hand cost t.pass.number
-asked_again a s b t hand cost far by =
-    let there = asked_still (sizes_of a.queues) far.trace.0 s.pass.knows.trace t.pass.knows.trace hand cost s.pass.number far.trace.1 by in
+pub asked_again : (a : LifeBookView) (s : PassToken) (b : LifeBookView) (t : PassToken) (hand : List ℕ) (cost : ℕ) → RacedSoFar a s b t → (a.queues.known ≡ false → IsAskedBy (sizes_of a.queues) s.pass.knows.trace hand cost s.pass.number) → b.queues.known ≡ false → IsAskedBy (sizes_of b.queues) t.pass.knows.trace hand cost t.pass.number
+asked_again a s b t hand cost far by none =
+    let there = asked_still (sizes_of a.queues) far.trace.0 s.pass.knows.trace t.pass.knows.trace hand cost s.pass.number far.trace.1 (by (sym far.same.known ∙ none)) in
     subst (λ (r : ℕ). IsAskedBy (sizes_of b.queues) t.pass.knows.trace hand cost r) (sym far.request.number)
     (subst (λ (n : ℕ). IsAskedBy (record { deck = n; hand = b.queues.hand }) t.pass.knows.trace hand cost s.pass.number) (sym far.same.queues)
     (subst (λ (n : ℕ). IsAskedBy (record { deck = queue_count a.queues.queues; hand = n }) t.pass.knows.trace hand cost s.pass.number) (sym far.same.hand) there))

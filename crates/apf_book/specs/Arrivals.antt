@@ -51,6 +51,14 @@ arrival arrived.Closed r = []
 arrival arrived.Cancelled r = []
 arrival arrived.Again r = []
 
+-- it names one
+abbrev pub is_logged : Arrived → Bool
+is_logged (arrived.Queued q) = true
+is_logged (arrived.Full q) = true
+is_logged arrived.Closed = false
+is_logged arrived.Cancelled = false
+is_logged arrived.Again = false
+
 -- the answer is a decision that was told in this call, if it means one
 abbrev pub IsTold : Arrived → PassRecord → Knowledge → Knowledge → Type 0
 IsTold (arrived.Queued q) pass' known known' = Unit {0}

@@ -5,10 +5,10 @@ use Rattle.apf_history.specs.declared.events.Event.TheVariants.{Enter}
 use Rattle.apf_history.specs.declared.events.Charge.{Charge}
 use Rattle.apf_history.specs.declared.events.LogEntry.{LogEntry}
 use Rattle.apf_history.specs.Standing.{EachNames}
-use Rattle.apf_model.specs.Charged.{events, charged_numbers, runs, charge_of, IsAmong, IsSettled}
+use Rattle.apf_model.specs.Charged.{events, charged_numbers, log_of, runs, charge_of, IsAmong, IsSettled}
 use Rattle.apf_model.specs.World.{width}
 use Rattle.apf_model.specs.History.{waiting, MayFollow, IsLegal}
-use Rattle.apf_model.specs.Fair.{IsFair, service, IsNeverEmpty, widest, DifferAtMost}
+use Rattle.apf_model.specs.Fair.{IsFair, numbers, service, IsNeverEmpty, widest, DifferAtMost}
 use Rattle.apf_model.specs.Waits.{total_width, granted}
 use Rattle.apf_model.specs.Order.{AreInOrder, AreStatuses, AreCounted, Follows}
 
@@ -84,3 +84,13 @@ pub record Stands : Type 0 where
 -- the same, closed
 unfoldable pub StandingLaw : Type 0
 StandingLaw = Stands
+
+-- the law of a log in which nothing is settled: it is its history, has its numbers, and is settled only if that is fair
+pub record Unsettled : Type 0 where
+  pub same : (h : List Event) → events (log_of h) ≡ h
+  pub numbers : (queues : ℕ) (costs : List ℕ) (h : List Event) → charged_numbers queues costs (log_of h) ≡ numbers queues costs h
+  pub fair : (queues : ℕ) (costs : List ℕ) (hands : ℕ → List ℕ) (limit : ℕ) (h : List Event) → IsSettled queues costs hands limit (log_of h) → IsFair queues costs hands limit h
+
+-- the same, closed
+unfoldable pub UnsettledLaw : Type 0
+UnsettledLaw = Unsettled

@@ -1,12 +1,12 @@
 -- The queues and the log, as contracts see them.
-use Rattle.std.specs.Prelude.{◌≡◌, ◌≢◌, ℕ, ◌*◌, ◌<◌, ◌≤◌, false, List, [], ◌∷◌, length, slice_get, slice_index, Some}
+use Rattle.std.specs.Prelude.{◌≡◌, ◌≢◌, ℕ, ◌*◌, ◌≤◌, List, [], length, slice_get, slice_index, Some}
 use Rattle.apf_words.specs.Limits.{max_requests}
 use Rattle.apf_flow.specs.Sizes.{Sizes}
 use Rattle.apf_flow.specs.Deal.{hand_of}
 use Rattle.apf_history.specs.declared.events.Event.{Event}
 use Rattle.apf_model.specs.World.{width}
 use Rattle.apf_model.specs.Schedule.{AreCosts}
-use Rattle.apf_model.specs.History.{NamesRequests, NamesQueues, has_arrived, waiting, IsShortest}
+use Rattle.apf_model.specs.History.{NamesRequests, NamesQueues, waiting}
 use Rattle.apf_model.specs.Fair.{numbers, finish, widest, IsChoice, IsFair}
 use Rattle.apf_queue.specs.declared.choice.Chosen.{Chosen}
 
@@ -37,17 +37,6 @@ pub record IsLogOf (v : LedgerView) : Type 0 where
   pub names_queues : NamesQueues v.sizes.deck v.history
   pub costs : AreCosts v.costs
   pub few : length v.costs ≤ max_requests
-
--- with one event more, after what the log has
-abbrev pub after : LedgerView → Event → LedgerView
-after v e = record v { history = e ∷ v.history }
-
--- r neither entered nor was refused as full, and q is the shortest queue of its hand
-pub record Arrives (v : LedgerView) (r q : ℕ) : Type 0 where
-  pub is_request : r < length v.costs
-  pub is_queue : q < v.sizes.deck
-  pub is_new : has_arrived v.history r ≡ false
-  pub is_shortest : IsShortest (waiting v.history) (hand_in v r) q
 
 -- nothing waits
 abbrev pub NothingWaits : LedgerView → Type 0

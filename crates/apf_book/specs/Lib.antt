@@ -17,6 +17,7 @@ pub mod Said
 pub mod Arrivals
 pub mod Servings
 pub mod LifeBook
+pub mod Batch
 pub mod LifeCalls
 pub mod Laws
 pub mod Histories

@@ -41,6 +41,8 @@ pub record LifeState : Type 0 where
   pub holders : List ℕ
   -- how many queues a hand has
   pub hand : ℕ
+  -- whether it is known beforehand what each request asks for, as of a batch
+  pub known : Bool
   -- of each slot: what a queue is charged for the request that holds it, while that executes and was dispatched from the queue. Of no slot, where nothing is settled
   pub running : List (Option Charge)
 
@@ -133,9 +135,9 @@ sizes_in v s = record { deck = v.queues; hand = s.hand }
 abbrev pub sizes_of : LifeState → Sizes
 sizes_of s = record { deck = queue_count s.queues; hand = s.hand }
 
--- the holders of slots are as many, and the hands as large
+-- the holders of slots are as many, the hands as large, and as much is known beforehand
 abbrev pub SameSlots : LifeState → LifeState → Type 0
-SameSlots s s' = (length s'.holders ≡ length s.holders) × (s'.hand ≡ s.hand)
+SameSlots s s' = (length s'.holders ≡ length s.holders) × (s'.hand ≡ s.hand) × (s'.known ≡ s.known)
 
 -- with one event more
 abbrev pub then_came : LifeView → Event → LifeView

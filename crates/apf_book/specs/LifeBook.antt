@@ -39,8 +39,8 @@ pub record IsLifeKept (v : LifeView) (b : LifeBookView) : Type 0 where
   pub one_holder_each : length b.queues.holders ≡ b.desk.desk.knows.shape.slots
   -- at a gate without queues nothing happens to them
   pub no_queues : b.desk.desk.knows.shape.response ≡ Reject → v.history ≡ []
-  -- each request that arrived has the hand and the cost that it asked for, by what the Desk's steps found
-  pub asks : AreAsked (sizes_in v b.queues) b.desk.desk.knows.trace v.costs v.hands v.history
+  -- unless that is known beforehand, each request that arrived has the hand and the cost that it asked for, by what the Desk's steps found
+  pub asks : b.queues.known ≡ false → AreAsked (sizes_in v b.queues) b.desk.desk.knows.trace v.costs v.hands v.history
 
 -- there is a history that the book is of
 pub record IsLived (b : LifeBookView) : Type 0 where

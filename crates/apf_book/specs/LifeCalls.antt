@@ -1,5 +1,5 @@
 -- What the calls of a book for life ask and answer, and what a caller may rely on after them.
-use Rattle.std.specs.Prelude.{◌++◌, ◌≡◌, ◌≢◌, ◌↔◌, ◌*◌, ◌≤◌, ◌<◌, ℕ, true, false, List, length, All, Option, Result, Some, None, IfOk, IfErr, OnOk}
+use Rattle.std.specs.Prelude.{◌++◌, ◌≡◌, ◌≢◌, ◌↔◌, ◌*◌, ◌≤◌, ◌<◌, ℕ, Bool, true, false, List, length, All, Option, Result, Some, None, IfOk, IfErr, OnOk}
 use Rattle.apf_words.specs.Limits.{max_cost}
 use Rattle.apf_words.specs.declared.decision.Decision.{Decision}
 use Rattle.apf_words.specs.declared.decision.Decision.TheVariants.{Cancelled}
@@ -9,8 +9,9 @@ use Rattle.apf_queue.specs.View.{IsQueueShape, queue_count}
 use Rattle.apf_queue.specs.declared.fault.QueueFault.TheVariants as queue
 use Rattle.apf_gate.specs.declared.record.Entry.{Entry}
 use Rattle.apf_gate.specs.declared.record.State.TheVariants.{InLine}
-use Rattle.apf_gate.specs.declared.record.Service.TheVariants.{Left}
+use Rattle.apf_gate.specs.declared.record.Service.TheVariants.{NotHanded, Left}
 use Rattle.apf_gate.specs.Records.{new_desk, told_of, told_own, service, KnowsMore}
+use Rattle.apf_gate.specs.Requests.{has_entered}
 use Rattle.apf_gate.specs.Tokens.{GateId, PassToken, DeskToken, pass_gate, desk_gate}
 use Rattle.apf_gate.specs.JoinedSteps.{JoinedLoadsDecision}
 use Rattle.apf_book.specs.declared.arrived.Arrived.{Arrived}
@@ -34,11 +35,12 @@ IsLifeFaultOf c slots NoMemory = IsQueueShape c.queues c.queue_length_limit slot
 IsLifeFaultOf c slots other = ⊥
 
 -- the book that was made has the Desk as it was given, room for two events of each slot, places for what is charged where that is settled, and every history in which nothing happened yet; or the fault is the first of the settings
-pub record MakesLifeBook (config : Config) (slots : ℕ) (given : DeskToken) (settling : Settling) (made : Result LifeBookView BookFault) : Type 0 where
+pub record MakesLifeBook (config : Config) (slots : ℕ) (given : DeskToken) (settling : Settling) (known : Bool) (made : Result LifeBookView BookFault) : Type 0 where
   pub desk : IfOk made (λ (b : LifeBookView). b.desk ≡ given)
   pub room : IfOk made (λ (b : LifeBookView). b.notes.capacity ≡ 2 * slots)
   pub hand : IfOk made (λ (b : LifeBookView). b.queues.hand ≡ config.hand_size)
   pub places : IfOk made (λ (b : LifeBookView). length b.queues.running ≡ places_of settling slots)
+  pub known_is : IfOk made (λ (b : LifeBookView). b.queues.known ≡ known)
   pub opens : IfOk made (λ (b : LifeBookView). (v : LifeView) → IsOpening v config.queues config.queue_length_limit → length v.costs ≡ length given.desk.knows.shape.widths → IsLifeKept v b)
   pub settings : OnOk made (IsQueueShape config.queues config.queue_length_limit slots)
   pub fault : IfErr made (IsLifeFaultOf config slots)
@@ -60,13 +62,14 @@ pub record IsAsk (book : LifeBookView) (hand : List ℕ) (cost : ℕ) : Type 0 w
   pub some_cost : 1 ≤ cost
   pub low : cost ≤ max_cost
 
--- the Desk is of the same gate still and knows more than it did, and the book has as many queues, slots and places for events and for charges as it had
+-- the Desk is of the same gate still and knows more than it did, and the book has as many queues, slots and places for events and for charges as it had, and as much is known beforehand
 pub record SameLifeBook (book book' : LifeBookView) : Type 0 where
   pub gate : desk_gate book'.desk ≡ desk_gate book.desk
   pub more : KnowsMore book.desk.desk.knows book'.desk.desk.knows
   pub queues : queue_count book'.queues.queues ≡ queue_count book.queues.queues
   pub room : book'.notes.capacity ≡ book.notes.capacity
   pub hand : book'.queues.hand ≡ book.queues.hand
+  pub known : book'.queues.known ≡ book.queues.known
   pub places : length book'.queues.running ≡ length book.queues.running
 
 -- the request entered exactly if the answer says so
@@ -92,7 +95,7 @@ pub record AfterLifeArrival (book : LifeBookView) (token : PassToken) (answer : 
   pub cancelled_first : told_own token.pass ≡ Some Cancelled → ¬ SaysOpen answer
   pub cancelled_seen : told_own token'.pass ≡ Some Cancelled → ¬ SaysOpen answer
 
--- the Desk and the Pass, joined, loaded the request's word. What the Pass was told both are told, and it has that its request left where the Desk let it leave
+-- the Desk and the Pass, joined, loaded the request's word. What the Pass was told both are told, and it has that its request left where the Desk let it leave. They agreed on whether it was handed over and entered
 pub record HearsLife (book : LifeBookView) (token : PassToken) (book' : LifeBookView) (token' : PassToken) : Type 0 where
   pub history : (v : LifeView) → IsLifeKept v book → IsLifeKept v book'
   pub answer : (found : Option Decision) × JoinedLoadsDecision (record { pass = token.pass; desk = book.desk.desk }) found (record { pass = token'.pass; desk = book'.desk.desk })
@@ -100,6 +103,8 @@ pub record HearsLife (book : LifeBookView) (token : PassToken) (book' : LifeBook
   pub told : told_own token.pass ≢ None → told_of book'.desk.desk.knows.told token.pass.number ≡ told_own token.pass
   pub told_pass : told_own token.pass ≢ None → told_own token'.pass ≡ told_own token.pass
   pub left : service book.desk.desk token.pass.number ≡ Left → token'.pass.left ≡ true
+  pub entered : token'.pass.entered ≡ has_entered (service book.desk.desk token.pass.number)
+  pub not_handed : token.pass.handed ≡ false → service book.desk.desk token.pass.number ≡ NotHanded
 
 -- what the Pass knew the Desk knows
 abbrev pub HeardAll : PassToken → LifeBookView → Type 0

@@ -3,6 +3,7 @@ use Rattle.std.specs.Prelude.{◌≡◌, ℕ, ◌-◌, ◌^◌, ◌<◌, List, l
 use Rattle.circular_buffer.specs.Buffer.{keep_last}
 use Rattle.apf_history.specs.declared.events.Event.{Event}
 use Rattle.apf_history.specs.declared.events.Event.TheVariants as events
+use Rattle.apf_model.specs.History.{request_of}
 use Rattle.apf_model.specs.Outcome.{is_enter, is_full, is_dispatch, is_strike}
 use Rattle.apf_book.specs.declared.life_event.LifeEvent.{LifeEvent}
 use Rattle.apf_book.specs.declared.life_event.LifeEvent.TheVariants as life
@@ -16,6 +17,10 @@ event_of (life.Enter t q) = events.Enter t.number q
 event_of (life.Full t q) = events.Full t.number q
 event_of (life.Dispatch t q) = events.Dispatch t.number q
 event_of (life.Strike t q) = events.Strike t.number q
+
+-- the number of its request is below 2^32, as each of a batch is
+abbrev pub IsSmall : LifeEvent → Type 0
+IsSmall e = request_of (event_of e) < 2 ^ 32
 
 -- what is noted: the newest events, the oldest of them first, how many there is room for, and the numbers of all
 pub record RecentEventsView : Type 0 where

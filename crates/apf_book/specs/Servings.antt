@@ -38,14 +38,6 @@ pub record HeadMisses (v : LedgerView) (known known' : Knowledge) : Type 0 where
 abbrev pub Stops : LedgerView → Knowledge → Knowledge → Type 0
 Stops v known known' = NothingWaits v ⊎ HeadMisses v known known'
 
--- what one turn made of the log
-abbrev pub Turns : Option Served → LedgerView → LedgerView → Knowledge → Knowledge → Type 0
-Turns None v v' known known' = (v' ≡ v) × NothingWaits v'
-Turns (Some served.Dispatched) v v' known known' = (r q : ℕ) × (v' ≡ with (Dispatch r q ∷ []) v)
-Turns (Some served.Struck) v v' known known' = (r q : ℕ) × (v' ≡ with (Strike r q ∷ []) v)
-Turns (Some served.NoRoom) v v' known known' = (v' ≡ v) × HeadMisses v' known known'
-Turns (Some served.Raced) v v' known known' = v' ≡ v
-
 -- each is a Dispatch or a Strike
 abbrev pub AreServings : List Event → Type 0
 AreServings [] = Unit {0}

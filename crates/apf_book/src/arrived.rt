@@ -1,5 +1,8 @@
 //! What becomes of an arrival.
 
+ghost use Rattle.std.specs.Prelude.{◌≡◌};
+ghost use Rattle.apf_book.specs.Arrivals.{is_logged};
+
 /// What became of a request that arrived.
 #[derive(Clone, Copy, Debug, PartialEq, Eq)]
 pub enum Arrived {
@@ -13,4 +16,16 @@ pub enum Arrived {
     Cancelled,
     /// It entered, or was rejected as its queue was full, when it arrived before.
     Again,
+}
+
+impl Arrived {
+    // Whether an event is logged of it.
+    pub(crate) fn is_logged(self) -> bool
+        ensures { result ≡ is_logged self }
+    {
+        match self {
+            Arrived::Queued(_queue) | Arrived::Full(_queue) => true,
+            Arrived::Closed | Arrived::Cancelled | Arrived::Again => false,
+        }
+    }
 }

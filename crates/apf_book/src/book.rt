@@ -1,27 +1,29 @@
 //! The book of a level: its queues and its log, with the Desk.
 
-ghost use Rattle.std.specs.Prelude.{◌≡◌, ◌+◌, ◌<◌, ◌≤◌, length, reverse};
+ghost use Rattle.std.specs.Prelude.{◌≡◌, ◌+◌, ◌<◌, false, length, map, reverse, IfOk, IsOkAnd, OnOk, IfErr};
 ghost use Rattle.apf_model.specs.Outcome.{stats_of};
 ghost use Rattle.apf_gate.specs.declared.record.State.TheVariants.{InLine};
 ghost use Rattle.apf_gate.specs.Tokens.{desk_gate};
-ghost use Rattle.apf_book.specs.Opening.{opening_ledger, opening_ledger_with};
+ghost use Rattle.apf_book.specs.Opening.{opening_ledger, opening_ledger_with, AreSettings, IsFaultOf};
+ghost use Rattle.apf_book.specs.Stopped.{IsStopped};
+ghost use Rattle.apf_model.specs.History.{has_arrived};
 ghost use Rattle.apf_book.specs.LedgerKept.{AreStats};
 ghost use Rattle.apf_book.specs.BookView.{IsKept};
-ghost use Rattle.apf_book.specs.Servings.{Turns};
 ghost use Rattle.apf_book.specs.BookCalls.{IsDeskFor, AreCostsFor, MakesBook, AreOf, AnswersArrival, Dispatches, StrikesOut, Hears};
 ghost use Rattle.apf_book.specs.BookResults.{SameBook, SameRequest, AfterArrive, AfterStrike, AfterHear, IsLogOfBook};
 
 use crate::arrived::Arrived;
 use crate::fault::BookFault;
-use crate::handing::{Handed, hand};
-use crate::histories::legal_histories_are_in_order;
-use crate::ledger::{Ledger, widths_of};
-use crate::serving::{Served, serve};
+use crate::histories::{
+    fair_histories_are_balanced, fair_histories_isolate, legal_histories_are_in_order,
+    unsettled_logs_are_fair, waits_are_bounded,
+};
+use crate::life_book::LifeBook;
 use crate::stats::Stats;
-use apf_gate::{Desk, Gate, Pass};
+use apf_flow::Dealer;
+use apf_gate::{Desk, Gate, Pass, Ticket};
 use apf_model::{Ask, Config, Event};
-use apf_words::Decision;
-use std::alloc::Allocator;
+use std::alloc::{AllocError, Allocator};
 use std::marker::Model;
 use std::sync::Wait;
 
@@ -29,20 +31,30 @@ use std::sync::Wait;
 ///
 /// Whenever no call of it runs, the log is legal and fair, each queue is the waiting of the log, the
 /// log says of each request what the Desk did with it, and the Desk holds nothing.
+///
+/// It is a book for life of which what each request asks for is known beforehand, and which forgets no event.
 #[derive(Drop)]
 pub struct Book<A: Allocator> {
-    desk: Desk,
-    ledger: Ledger<A>,
+    book: LifeBook<A>,
+    dealer: Dealer,
+    costs: Vec<u32, A>,
+    hashes: Vec<u64, A>,
+    // whether a request entered or was refused as full
+    arrived: Vec<bool, A>,
+    // the oldest event stands first
+    log: Vec<Event, A>,
 }
 
 impl<A: Allocator> Model for Book<A> {
-    ghost use Rattle.apf_book.specs.BookView.{BookView, IsKept};
+    ghost use Rattle.std.specs.Prelude.{vec_capacity};
+    ghost use Rattle.apf_book.specs.BookView.{BookView};
+    ghost use Rattle.apf_book.specs.Batch.{IsBatchBook, ledger_with};
 
     ghost Value = { BookView };
 
-    ghost view = { λ s. record { desk = s.desk; ledger = s.ledger } };
+    ghost view = { λ s. record { desk = s.book.desk; ledger = ledger_with s.book s.dealer s.costs.items s.hashes.items s.log.items } };
 
-    ghost invariant = { λ s. IsKept s.desk.desk s.ledger };
+    ghost invariant = { λ s. IsBatchBook (ledger_with s.book s.dealer s.costs.items s.hashes.items s.log.items) s.book s.arrived.items (vec_capacity s.log) };
 }
 
 impl<A: Allocator + Copy> Book<A> {
@@ -58,9 +70,7 @@ impl<A: Allocator + Copy> Book<A> {
         requires begins { IsDeskFor asks.now desk }
         ensures { MakesBook config.now asks.now desk (opening_ledger config.now asks.now) result }
     {
-        desk.is_of_a_gate();
-        let ledger = Ledger::new(alloc, config, asks, widths_of(alloc, asks))?;
-        Ok(Book { desk, ledger })
+        Book::made(alloc, config, asks, widths_of(alloc, asks), desk)
     }
 
     /// As `new`, but a dispatch is charged the request's cost: its queue's next and the level's virtual
@@ -83,10 +93,57 @@ impl<A: Allocator + Copy> Book<A> {
         requires costs { AreCostsFor asks.now costs.now }
         ensures { MakesBook config.now asks.now desk (opening_ledger_with config.now asks.now costs.now) result }
     {
-        desk.is_of_a_gate();
-        let ledger = Ledger::new(alloc, config, asks, Vec::from_slice(alloc, costs))?;
-        Ok(Book { desk, ledger })
+        Book::made(alloc, config, asks, Vec::from_slice(alloc, costs), desk)
     }
+
+    // With an empty log, which has room for two events of each request. Where the costs found no memory, that is the last
+    // fault.
+    fn made(
+        alloc: A,
+        config: &Config,
+        asks: &[Ask],
+        costs: Result<Vec<u32, A>, AllocError>,
+        desk: Desk,
+    ) -> Result<Book<A>, BookFault>
+        requires begins { IsDeskFor asks.now desk }
+        requires charged { IfOk costs (λ v. AreCostsFor asks.now v.items) }
+        ensures desk { IfOk result (λ b. b.desk ≡ desk) }
+        ensures ledger { IfOk result (λ b. IsOkAnd costs (λ v. b.ledger ≡ opening_ledger_with config.now asks.now v.items)) }
+        ensures stopped { IfOk result (λ b. IsStopped b.ledger b.desk.desk.knows) }
+        ensures settings { OnOk result (AreSettings config.now asks.now) }
+        ensures fault { IfErr result (IsFaultOf config.now asks.now) }
+    {
+        legal_histories_are_in_order();
+        desk.is_of_a_gate();
+        let dealer = match Dealer::new(config.queues, config.hand_size) {
+            Ok(dealer) => dealer,
+            Err(fault) => return Err(BookFault::Dealer(fault)),
+        };
+        let requests = asks.len();
+        let book = LifeBook::of_batch(alloc, config, requests as u32, desk)?;
+        Ok(Book {
+            book,
+            dealer,
+            costs: costs?,
+            hashes: hashes_of(alloc, asks)?,
+            arrived: vec![in alloc; false; requests]?,
+            log: Vec::with_capacity(alloc, 2 * requests)?,
+        })
+    }
+}
+
+// The width of each request.
+fn widths_of<A: Allocator>(alloc: A, asks: &[Ask]) -> Result<Vec<u32, A>, AllocError>
+    ensures { IfOk result (λ v. v.items ≡ map (λ a. a.width) asks.now) }
+{
+    asks.iter().map(|ask| ask.width).collect(alloc)
+}
+
+// The hash of each request.
+fn hashes_of<A: Allocator>(alloc: A, asks: &[Ask]) -> Result<Vec<u64, A>, AllocError>
+    ensures { IfOk result (λ v. v.items ≡ map (λ a. a.hash) asks.now) }
+{
+    asks.iter().map(|ask| ask.hash).collect(alloc)
 }
 
 impl<A: Allocator> Book<A> {
@@ -110,30 +167,19 @@ impl<A: Allocator> Book<A> {
         ensures after { AfterArrive self.old pass.old result self.new pass.new }
     {
         legal_histories_are_in_order();
-        self.desk.is_of_a_gate();
-        let request = pass.number() as u32;
-        let found = gate.hear(&mut self.desk, pass);
-        if self.ledger.has_arrived(request) {
+        unsettled_logs_are_fair();
+        self.book.hear(gate, pass);
+        let request = pass.number() as usize;
+        if self.arrived[request] {
             return Arrived::Again;
         }
-        if let Some(Decision::Cancelled) = found {
-            return Arrived::Cancelled;
-        }
-        let queue = self.ledger.shortest(request);
-        let full = self.ledger.is_full(queue);
-        match hand(rt, gate, &mut self.desk, pass, full) {
-            Handed::Entered => {
-                self.ledger.enter(request, queue);
-                Arrived::Queued(queue)
-            }
-            Handed::Full => {
-                self.ledger.refuse(request, queue);
-                Arrived::Full(queue)
-            }
-            Handed::Closed => Arrived::Closed,
-            Handed::Cancelled => Arrived::Cancelled,
-            Handed::Raced => unreachable!(),
-        }
+        let hand = self.dealer.deal(self.hashes[request]);
+        let arrived = self
+            .book
+            .arrive(rt, gate, pass, hand.as_slice(), self.costs[request]);
+        self.book.append_newer(&mut self.log);
+        self.arrived[request] = arrived.is_logged();
+        arrived
     }
 
     /// Dispatches the chosen heads of the queues while they fit, and strikes those that are cancelled.
@@ -146,17 +192,11 @@ impl<A: Allocator> Book<A> {
         ensures same { SameBook self.old self.new }
         ensures answer { Dispatches self.old result self.new }
     {
-        let mut count = 0;
-        for _ in rt.forever() {
-            match self.serve_head_once(gate) {
-                None => return count,
-                Some(Served::NoRoom) => return count,
-                Some(Served::Dispatched) => count += 1,
-                Some(Served::Struck) => {}
-                Some(Served::Raced) => {}
-            }
-        }
-        unreachable!()
+        legal_histories_are_in_order();
+        unsettled_logs_are_fair();
+        let count = self.book.dispatch(rt, gate);
+        self.book.append_newer(&mut self.log);
+        count as u32
     }
 
     /// Strikes the request out of its queue, where it waits and is seen cancelled. Says whether it did;
@@ -169,15 +209,13 @@ impl<A: Allocator> Book<A> {
         ensures after { AfterStrike self.old request result self.new }
     {
         legal_histories_are_in_order();
-        self.desk.is_of_a_gate();
-        if gate.seen(&mut self.desk, request as u128) != Some(Decision::Cancelled) {
-            return false;
-        }
-        let Some(_queue) = self.ledger.strike(request) else {
-            return false;
+        unsettled_logs_are_fair();
+        let ticket = Ticket {
+            number: u128::from(request),
         };
-        gate.leave(&mut self.desk, request as u128);
-        true
+        let struck = self.book.strike_seen(gate, ticket);
+        self.book.append_newer(&mut self.log);
+        struck
     }
 
     /// The Desk hears the decision of the Pass's request, which is the one that the Pass was told, if it
@@ -189,7 +227,9 @@ impl<A: Allocator> Book<A> {
         ensures answer { Hears self.old pass.old self.new pass.new }
         ensures after { AfterHear pass.old self.new pass.new }
     {
-        gate.hear(&mut self.desk, pass);
+        legal_histories_are_in_order();
+        unsettled_logs_are_fair();
+        self.book.hear(gate, pass);
     }
 
     /// The numbers of the log, kept beside it.
@@ -197,7 +237,18 @@ impl<A: Allocator> Book<A> {
         ensures stats { AreStats result (stats_of self.now.ledger.sizes.deck self.now.ledger.history) }
         ensures sum { result.entered ≡ result.dispatched + result.struck + result.waiting }
     {
-        self.ledger.stats()
+        legal_histories_are_in_order();
+        let stats = self.book.stats();
+        let entered = stats.entered as u32;
+        let dispatched = stats.dispatched as u32;
+        let struck = stats.struck as u32;
+        Stats {
+            entered,
+            dispatched,
+            struck,
+            full: stats.full as u32,
+            waiting: entered - dispatched - struck,
+        }
     }
 
     /// The log, the oldest event first.
@@ -211,7 +262,11 @@ impl<A: Allocator> Book<A> {
     pub fn log(&self) -> &[Event]
         ensures { IsLogOfBook self.now result.now }
     {
-        self.ledger.log()
+        fair_histories_are_balanced();
+        fair_histories_isolate();
+        waits_are_bounded();
+        unsettled_logs_are_fair();
+        self.log.as_slice()
     }
 
     /// The Desk, and the log, the oldest event first. The rest is given up.
@@ -220,35 +275,15 @@ impl<A: Allocator> Book<A> {
         ensures log { reverse result.1.items ≡ self.ledger.history }
         ensures kept { IsKept self.desk.desk self.ledger }
     {
-        let Book { desk, ledger } = self;
-        (desk, ledger.into_log())
-    }
-
-    // Tries once to serve the chosen head, if any waits.
-    fn serve_head_once<G: Allocator>(&mut self, gate: &Gate<G>) -> Option<Served>
-        requires own { desk_gate self.old.desk ≡ gate.now }
-        ensures same { SameBook self.old self.new }
-        ensures turns { Turns result self.old.ledger self.new.ledger self.old.desk.desk.knows self.new.desk.desk.knows }
-        ensures few { length self.old.ledger.history ≤ 20000 }
-    {
-        legal_histories_are_in_order();
-        self.desk.is_of_a_gate();
-        let Some(chosen) = self.ledger.choose() else {
-            return None;
-        };
-        match serve(gate, &mut self.desk, chosen.request as u128) {
-            Served::Dispatched => {
-                self.ledger.dispatch(chosen);
-                Some(Served::Dispatched)
-            }
-            Served::Struck => {
-                let Some(_queue) = self.ledger.strike(chosen.request) else {
-                    unreachable!()
-                };
-                Some(Served::Struck)
-            }
-            Served::NoRoom => Some(Served::NoRoom),
-            Served::Raced => Some(Served::Raced),
-        }
+        unsettled_logs_are_fair();
+        let Book {
+            book,
+            dealer: _,
+            costs: _,
+            hashes: _,
+            arrived: _,
+            log,
+        } = self;
+        (book.end(), log)
     }
 }

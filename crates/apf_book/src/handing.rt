@@ -17,7 +17,6 @@ ghost use Rattle.apf_gate.specs.declared.answers.TryEnter.TheVariants as tried;
 use apf_gate::{Desk, Gate, Pass, TryEnter};
 use apf_words::Decision;
 use std::alloc::Allocator;
-use std::sync::Wait;
 
 // What became of a request that was handed to the Desk.
 #[derive(Clone, Copy)]
@@ -132,42 +131,4 @@ pub fn try_hand<A: Allocator>(
         TryEnter::Closed => refuse(gate, desk, pass, Decision::Closed),
         TryEnter::Raced => Handed::Raced,
     }
-}
-
-// As `try_hand`, but a lost exchange is tried again.
-pub fn hand<R: Wait, A: Allocator>(
-    rt: &R,
-    gate: &Gate<A>,
-    desk: &mut Desk,
-    pass: &mut Pass,
-    full: bool,
-) -> Handed
-    requires own_desk { desk_gate desk.old ≡ gate.now }
-    requires own_pass { pass_gate pass.old ≡ gate.now }
-    requires has_queues { gate.now.shape.response ≡ Queue }
-    requires in_line { pass.old.pass.state ≡ InLine }
-    requires not_entered { pass.old.pass.entered ≡ false }
-    requires is_new { logged (service desk.old.desk pass.old.pass.number) ≡ Some status_is.Away }
-    ensures desk { desk_gate desk.new ≡ desk_gate desk.old }
-    ensures pass { pass_gate pass.new ≡ pass_gate pass.old }
-    ensures number { pass.new.pass.number ≡ pass.old.pass.number }
-    ensures in_line { pass.new.pass.state ≡ InLine }
-    ensures moves { Moves desk.old.desk pass.old.pass.number (after_handing result) desk.new.desk }
-    ensures says { Says (said_handing result pass.old.pass.number) desk.old.desk.knows desk.new.desk.knows }
-    ensures held { desk.new.desk.held ≡ desk.old.desk.held }
-    ensures told { IsRefused result pass.new.pass desk.old.desk.knows desk.new.desk.knows }
-    ensures entered { pass.new.pass.entered ≡ is_in result }
-    ensures told_entering { (result ≡ Handed.Entered) ⊎ (result ≡ Handed.Raced) → told_own pass.new.pass ≡ told_own pass.old.pass }
-    ensures is_full { result ≡ Handed.Full → full ≡ true }
-    ensures has_room { result ≡ Handed.Entered → full ≡ false }
-    ensures stays_closed { desk.old.desk.knows.saw_closed ≡ true → (result ≢ Handed.Entered) × (result ≢ Handed.Full) }
-    ensures not_raced { result ≢ Handed.Raced }
-{
-    for _ in rt.forever() {
-        match try_hand(gate, desk, pass, full) {
-            Handed::Raced => {}
-            handed => return handed,
-        }
-    }
-    unreachable!()
 }

@@ -3,10 +3,11 @@
 //! A law with for-all statements is tried at each goal of the function that calls it. These say the laws
 //! in a word that no search looks into; a proof that needs one opens it by a lemma.
 
-ghost use Rattle.apf_book.specs.Histories.{LegalLaws, FairLaw, IsolationLaw, WaitLaws, StandingLaw};
+ghost use Rattle.apf_book.specs.Histories.{LegalLaws, FairLaw, IsolationLaw, WaitLaws, StandingLaw, UnsettledLaw};
 
 use apf_history::{
     every_charge_is_of_one_that_executes, every_settled_log_balances, every_settled_log_stands,
+    every_unsettled_log_is_fair,
 };
 use apf_model::{
     every_fair_history_is_balanced, every_fair_history_isolates, every_legal_history_is_in_order,
@@ -48,4 +49,11 @@ pub fn settled_logs_stand()
     every_settled_log_stands();
     every_charge_is_of_one_that_executes();
     every_settled_log_balances();
+}
+
+// The law of a log in which nothing is settled.
+pub fn unsettled_logs_are_fair()
+    ensures { UnsettledLaw }
+{
+    every_unsettled_log_is_fair();
 }

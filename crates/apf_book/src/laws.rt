@@ -5,7 +5,7 @@ ghost use Rattle.apf_history.specs.declared.events.Event.{Event};
 ghost use Rattle.apf_gate.specs.declared.record.DeskRecord.{DeskRecord};
 ghost use Rattle.apf_gate.specs.Tokens.{GateId, DeskToken, PassToken, StationToken, desk_gate};
 ghost use Rattle.apf_gate.specs.Ends.{WordsView, EndsWith};
-ghost use Rattle.apf_book.specs.LedgerView.{LedgerView, IsLogOf};
+ghost use Rattle.apf_book.specs.LedgerView.{LedgerView, IsLogOf, AreSmall};
 ghost use Rattle.apf_book.specs.BookView.{IsKept};
 ghost use Rattle.apf_book.specs.Laws.{DeskAgreesWithLog, LogAgrees};
 ghost use Rattle.apf_book.specs.Dispatched.{AreDispatchesBounded};
@@ -62,4 +62,14 @@ pub fn every_dispatched_wait_is_bounded()
 {
     legal_histories_are_in_order();
     waits_are_bounded();
+}
+
+/// In the log of every book no number of virtual time and no finish is above 10,000 times the largest cost. Where no costs
+/// were given, none is above 200,000,000 seats.
+///
+/// It runs no code: the contract is the law.
+pub fn no_virtual_time_is_large()
+    ensures { (v : LedgerView) → IsLogOf v → AreSmall v }
+{
+    legal_histories_are_in_order();
 }

@@ -6,7 +6,6 @@
 //! - `config`: the settings of a level, what a request asks of it, and the costs that it may have.
 //! - `fault`: why a book is refused.
 //! - `histories`: the laws of histories, for proofs.
-//! - `ledger`: the queues, and the log that they are of.
 //! - `settling`: whether what requests take is settled.
 //! - `life`: the queues of slots, and every history that they are of.
 //! - `life_event`: their events, `life_stats` how many there were, `recent_events` the newest of them, each in a `row`.
@@ -16,8 +15,8 @@
 //! - `arrived`: what becomes of an arrival.
 //! - `handing`: an arrival is handed to the Desk.
 //! - `serving`: the Desk serves the head of a queue, `dispatching` what a try to serve all that fit came to.
-//! - `book`: the ledger with the Desk.
 //! - `life_book`: queues of slots and recent events with the Desk.
+//! - `book`: the same of a batch, with its whole log.
 //! - `laws`: what is true of every book.
 #![tactic(auto)]
 
@@ -28,7 +27,6 @@ mod fault;
 mod handing;
 mod histories;
 mod laws;
-mod ledger;
 mod life;
 mod life_book;
 mod life_event;
@@ -49,7 +47,7 @@ pub use dispatching::TryDispatch;
 pub use fault::BookFault;
 pub use laws::{
     every_book_is_kept, every_dispatched_wait_is_bounded, every_ended_book_agrees,
-    no_request_is_forgotten,
+    no_request_is_forgotten, no_virtual_time_is_large,
 };
 pub use life_book::LifeBook;
 pub use life_event::LifeEvent;

@@ -25,6 +25,8 @@ pub struct LifeLedger<A: Allocator> {
     length_limit: u32,
     holders: Vec<u128, A>,
     hand: u32,
+    // Whether it is known beforehand what each request asks for.
+    known: bool,
     // What is charged for the request that holds each slot. There are no places where nothing is settled.
     running: Vec<Option<Charge>, A>,
 }
@@ -35,7 +37,7 @@ impl<A: Allocator> Model for LifeLedger<A> {
 
     ghost Value = { LifeState };
 
-    ghost view = { λ s. record { queues = s.queues; holders = s.holders.items; hand = s.hand; running = s.running.items } };
+    ghost view = { λ s. record { queues = s.queues; holders = s.holders.items; hand = s.hand; known = s.known; running = s.running.items } };
 
     ghost invariant = { λ s. (length s.holders.items ≡ length s.queues.costs) × (s.length_limit ≡ s.queues.length_limit) };
 }
@@ -48,12 +50,14 @@ impl<A: Allocator + Copy> LifeLedger<A> {
         length_limit: u32,
         slots: u32,
         hand: u32,
+        known: bool,
         settling: Settling,
     ) -> Result<LifeLedger<A>, QueueFault>
         ensures bad_shape { IsErrOf result QueueFault.BadShape ↔ (¬ IsQueueShape queues length_limit slots) }
         ensures shape { OnOk result (IsQueueShape queues length_limit slots) }
         ensures slots { IfOk result (λ l. length l.holders ≡ slots) }
         ensures hand { IfOk result (λ l. l.hand ≡ hand) }
+        ensures known { IfOk result (λ l. l.known ≡ known) }
         ensures places { IfOk result (λ l. length l.running ≡ places_of settling slots) }
         ensures opening { IfOk result (λ l. (v : LifeView) → IsOpening v queues length_limit → IsLifeOf v l) }
     {
@@ -62,6 +66,7 @@ impl<A: Allocator + Copy> LifeLedger<A> {
             length_limit,
             holders: vec![in alloc; 0; slots as usize]?,
             hand,
+            known,
             running: vec![in alloc; None; settling.places(slots) as usize]?,
         })
     }

@@ -1,18 +1,21 @@
 //! The book of a level whose slots are used again: its queues and its notes, with the Desk.
 
-ghost use Rattle.std.specs.Prelude.{◌≡◌, ◌⊎◌, ℕ, ◌^◌, ◌<◌, ◌≤◌, length, true, Some, All, IfSome, IfNone};
+ghost use Rattle.std.specs.Prelude.{◌≡◌, ◌⊎◌, ℕ, ◌^◌, ◌<◌, ◌≤◌, length, map, take, vec_capacity, true, false, Some, All, Contains, IfSome, IfNone};
 ghost use Rattle.apf_words.specs.declared.decision.Decision.TheVariants.{Cancelled};
 ghost use Rattle.apf_model.specs.declared.response.Response.TheVariants.{Queue};
 ghost use Rattle.apf_gate.specs.Slots.{IsTicket};
 ghost use Rattle.apf_words.specs.Level.{Level};
 ghost use Rattle.apf_gate.specs.Ends.{IsEnded};
-ghost use Rattle.apf_gate.specs.Records.{told_own, KnowsMore};
+ghost use Rattle.apf_gate.specs.Records.{told_own, service, KnowsMore};
 ghost use Rattle.apf_gate.specs.Tokens.{pass_gate, desk_gate, station_gate};
 ghost use Rattle.apf_gate.specs.Traces.{GoesOn};
 ghost use Rattle.apf_gate.specs.declared.record.Actor.TheVariants.{OfStation};
 ghost use Rattle.apf_book.specs.BookResults.{SameRequest};
 ghost use Rattle.apf_book.specs.Life.{IsAskedBy, sizes_of, how_many, charge_in, LifeView};
-ghost use Rattle.apf_book.specs.RecentEvents.{AreLifeStats, CopiesLate};
+ghost use Rattle.apf_book.specs.RecentEvents.{event_of, IsSmall, AreLifeStats, CopiesLate};
+ghost use Rattle.apf_book.specs.Servings.{Strikes};
+ghost use Rattle.apf_model.specs.History.{waiting};
+ghost use Rattle.apf_gate.specs.declared.record.Service.TheVariants.{Waiting};
 ghost use Rattle.apf_queue.specs.View.{max_charge};
 ghost use Rattle.apf_book.specs.LifeBook.{IsLifeKept, IsLived, HoldsSeats, TurnsLife, ServesLife, StrikesLife, SettlesLife, SpendsLife};
 ghost use Rattle.apf_book.specs.Tries.{IsNewTo, RacesArrival, LosesGrant, ServesUntil};
@@ -31,7 +34,7 @@ use crate::serving::{Served, serve};
 use crate::settling::Settling;
 use apf_gate::{Desk, Gate, Pass, Station, Ticket};
 use apf_history::Charge;
-use apf_model::Config;
+use apf_model::{Config, Event};
 use apf_queue::QueueFault;
 use apf_words::Decision;
 use std::alloc::Allocator;
@@ -80,7 +83,38 @@ impl<A: Allocator + Copy> LifeBook<A> {
         settling: Settling,
     ) -> Result<LifeBook<A>, BookFault>
         requires begins { IsLifeDeskFor slots desk }
-        ensures { MakesLifeBook config.now slots desk settling result }
+        ensures { MakesLifeBook config.now slots desk settling false result }
+    {
+        LifeBook::made(alloc, config, slots, desk, false, settling)
+    }
+
+    /// As `new`, over the gate of a batch: it is known beforehand what each request asks for, and nothing is settled.
+    ///
+    /// # Errors
+    ///
+    /// As of `new`.
+    pub fn of_batch(
+        alloc: A,
+        config: &Config,
+        slots: u32,
+        desk: Desk,
+    ) -> Result<LifeBook<A>, BookFault>
+        requires begins { IsLifeDeskFor slots desk }
+        ensures { MakesLifeBook config.now slots desk Settling.Never true result }
+    {
+        LifeBook::made(alloc, config, slots, desk, true, Settling::Never)
+    }
+
+    fn made(
+        alloc: A,
+        config: &Config,
+        slots: u32,
+        desk: Desk,
+        known: bool,
+        settling: Settling,
+    ) -> Result<LifeBook<A>, BookFault>
+        requires begins { IsLifeDeskFor slots desk }
+        ensures { MakesLifeBook config.now slots desk settling known result }
     {
         legal_histories_are_in_order();
         desk.is_of_a_gate();
@@ -90,6 +124,7 @@ impl<A: Allocator + Copy> LifeBook<A> {
             config.queue_length_limit,
             slots,
             config.hand_size,
+            known,
             settling,
         ) {
             Ok(ledger) => ledger,
@@ -121,7 +156,7 @@ impl<A: Allocator> LifeBook<A> {
         requires own { AreOfLife gate.now self.old pass.old }
         requires is_new { IsNewTo self.old pass.old }
         requires ask { IsAsk self.old dealt.now cost }
-        requires asked { IsAskedBy (sizes_of self.old.queues) pass.old.pass.knows.trace dealt.now cost pass.old.pass.number }
+        requires asked { self.old.queues.known ≡ false → IsAskedBy (sizes_of self.old.queues) pass.old.pass.knows.trace dealt.now cost pass.old.pass.number }
         requires has_queues { gate.now.shape.response ≡ Queue }
         ensures same { SameLifeBook self.old self.new }
         ensures same_request { SameRequest pass.old pass.new }
@@ -149,7 +184,7 @@ impl<A: Allocator> LifeBook<A> {
         requires own { AreOfLife gate.now self.old pass.old }
         requires is_new { IsNewTo self.old pass.old }
         requires ask { IsAsk self.old dealt.now cost }
-        requires asked { IsAskedBy (sizes_of self.old.queues) pass.old.pass.knows.trace dealt.now cost pass.old.pass.number }
+        requires asked { self.old.queues.known ≡ false → IsAskedBy (sizes_of self.old.queues) pass.old.pass.knows.trace dealt.now cost pass.old.pass.number }
         requires has_queues { gate.now.shape.response ≡ Queue }
         ensures same { SameLifeBook self.old self.new }
         ensures same_request { SameRequest pass.old pass.new }
@@ -236,15 +271,29 @@ impl<A: Allocator> LifeBook<A> {
         ensures answer { (v : LifeView) → IsLifeKept v self.old → StrikesLife v self.old request.number result self.new }
     {
         legal_histories_are_in_order();
-        self.desk.is_of_a_gate();
         if !self.ledger.waits(request.number) {
             return false;
         }
+        self.strike_seen(gate, request)
+    }
+
+    /// As `strike`, but the request's word is read also where it does not wait, which is for a request that waits, or for
+    /// one of a batch.
+    pub(crate) fn strike_seen<G: Allocator>(&mut self, gate: &Gate<G>, request: Ticket) -> bool
+        requires own { desk_gate self.old.desk ≡ gate.now }
+        requires is_request { IsTicket gate.now.shape request.number }
+        requires has_slot { (service self.old.desk.desk request.number ≡ Waiting) ⊎ (length gate.now.shape.widths ≡ gate.now.shape.slots) }
+        ensures same { SameLifeBook self.old self.new }
+        ensures answer { (v : LifeView) → IsLifeKept v self.old → StrikesLife v self.old request.number result self.new }
+        ensures reads { (v : LifeView) → IsLifeKept v self.old → Strikes self.old.desk.desk request.number result ((q : ℕ) × Contains (waiting v.history q) request.number) self.new.desk.desk }
+    {
+        legal_histories_are_in_order();
+        self.desk.is_of_a_gate();
         if gate.seen(&mut self.desk, request.number) != Some(Decision::Cancelled) {
             return false;
         }
         let Some(queue) = self.ledger.strike(request.number) else {
-            unreachable!()
+            return false;
         };
         gate.leave(&mut self.desk, request.number);
         self.notes.note(LifeEvent::Strike(request, queue));
@@ -391,6 +440,17 @@ impl<A: Allocator> LifeBook<A> {
         ensures { (v : LifeView) → IsLifeKept v self.now → length v.history < 2 ^ 64 → CopiesLate self.now.notes.capacity v.history from into.old result into.new }
     {
         self.notes.copy(from, into)
+    }
+
+    /// Appends to a log that begins as the events that are kept do, those that it does not have, the oldest first.
+    pub(crate) fn append_newer<L: Allocator>(&self, log: &mut Vec<Event, L>)
+        requires begun { log.old.items ≡ take (length log.old.items) (map event_of self.now.notes.newest) }
+        requires room { length self.now.notes.newest ≤ vec_capacity log.old }
+        requires small { All IsSmall self.now.notes.newest }
+        ensures whole { log.new.items ≡ map event_of self.now.notes.newest }
+        ensures capacity { vec_capacity log.new ≡ vec_capacity log.old }
+    {
+        self.notes.append_newer(log);
     }
 
     /// The Desk. The rest is given up.

@@ -1,14 +1,15 @@
 //! The newest events of a history, and how many there ever were of each kind.
 
-ghost use Rattle.std.specs.Prelude.{◌≡◌, ℕ, ◌+◌, ◌*◌, ◌^◌, ◌<◌, ◌≤◌, List, [], ◌∷◌, length, take, drop, IfOk};
+ghost use Rattle.std.specs.Prelude.{◌≡◌, ℕ, ◌+◌, ◌*◌, ◌^◌, ◌<◌, ◌≤◌, List, [], ◌∷◌, length, map, take, drop, All, vec_capacity, IfOk};
 ghost use Rattle.apf_words.specs.Limits.{max_requests};
 ghost use Rattle.circular_buffer.specs.Buffer.{Buffer};
 ghost use Rattle.apf_history.specs.declared.events.Event.{Event};
-ghost use Rattle.apf_book.specs.RecentEvents.{event_of, AreRecentEventsOf, AreLifeStats, CopiesLate};
+ghost use Rattle.apf_book.specs.RecentEvents.{event_of, IsSmall, AreRecentEventsOf, AreLifeStats, CopiesLate};
 
 use crate::life_event::LifeEvent;
 use crate::life_stats::LifeStats;
 use crate::row::Row;
+use apf_model::Event;
 use circular_buffer::HeapCircularBuffer;
 use std::alloc::{AllocError, Allocator};
 use std::marker::Model;
@@ -113,6 +114,35 @@ impl<A: Allocator> RecentEvents<A> {
         let count = (kept - skipped).min(into.len());
         copy_run(&self.newest, skipped, &mut into[..count]);
         Copied { from: start, count }
+    }
+
+    // Appends to a log that begins as the events that are kept do, those that it does not have.
+    pub fn append_newer<L: Allocator>(&self, log: &mut Vec<Event, L>)
+        requires begun { log.old.items ≡ take (length log.old.items) (map event_of self.now.newest) }
+        requires room { length self.now.newest ≤ vec_capacity log.old }
+        requires small { All IsSmall self.now.newest }
+        ensures whole { log.new.items ≡ map event_of self.now.newest }
+        ensures capacity { vec_capacity log.new ≡ vec_capacity log.old }
+    {
+        for i in log.len()..self.newest.len() {
+            let Some(row) = self.newest.get(i) else {
+                unreachable!()
+            };
+            log.push_reserved(plain(row.event()));
+        }
+    }
+}
+
+// The event of a batch.
+fn plain(event: LifeEvent) -> Event
+    requires { IsSmall event }
+    ensures { result ≡ event_of event }
+{
+    match event {
+        LifeEvent::Enter(ticket, queue) => Event::Enter(ticket.number as u32, queue),
+        LifeEvent::Full(ticket, queue) => Event::Full(ticket.number as u32, queue),
+        LifeEvent::Dispatch(ticket, queue) => Event::Dispatch(ticket.number as u32, queue),
+        LifeEvent::Strike(ticket, queue) => Event::Strike(ticket.number as u32, queue),
     }
 }
 

@@ -21,10 +21,10 @@ use Rattle.apf_line.specs.Levels.{LifeId}
 use Rattle.apf_level.specs.LifeAdmission.{begun_pass}
 use Rattle.apf_level.specs.declared.answers.Begun.{Begun}
 use Rattle.apf_level.specs.declared.answers.Begun.TheVariants as begins
-use Rattle.apf_level.specs.declared.answers.Tried.{Tried}
-use Rattle.apf_level.specs.declared.answers.Tried.TheVariants as tries
+use Rattle.apf_line.specs.declared.attempts.Tried.{Tried}
+use Rattle.apf_line.specs.declared.attempts.Tried.TheVariants as tries
 use Rattle.apf_line.specs.Tries.{FoundNoSeatsSince}
-use Rattle.apf_level.specs.Attempts.{FoundIfBlocked}
+use Rattle.apf_line.specs.Attempts.{FoundIfBlocked}
 use Rattle.apf_level.specs.LifeInPlace.{begin_of}
 use Rattle.apf_level.specs.LifeArrivals.{Came, HasEntered, Logs, LogsInLine, TraceGoesOn}
 

@@ -33,6 +33,7 @@ still_own k b b' v v' own same kept kept' limit = record {
   limit = kept'.of_life.limit ∙ (limit ∙ (sym kept.of_life.limit ∙ own.limit));
   hand = same.hand ∙ own.hand;
   settles = ap (λ (n : ℕ). not (n == 0)) same.places ∙ own.settles;
+  known = same.known ∙ own.known;
 }
 
 -- the event of an arrival was the newest of the history of this book, and the Pass knew then what its Desk did

@@ -6,8 +6,8 @@ use Rattle.apf_gate.specs.declared.record.State.TheVariants.{Fresh}
 use Rattle.apf_gate.specs.Records.{told_own}
 use Rattle.apf_gate.specs.Tokens.{PassToken}
 use Rattle.apf_gate.specs.PassSteps.{PassLoadsDecision}
-use Rattle.apf_level.specs.Attempts.{Attempts, FindsBusy}
-use Rattle.apf_level.specs.declared.answers.Tried.TheVariants as tries
+use Rattle.apf_line.specs.Attempts.{Attempts, FindsBusy}
+use Rattle.apf_line.specs.declared.attempts.Tried.TheVariants as tries
 use Rattle.apf_level.specs.declared.answers.TryAdmit.{TryAdmit}
 use Rattle.apf_level.specs.declared.answers.TryAdmit.TheVariants as tried
 use Rattle.apf_level.specs.declared.answers.Begin.{Begin}

@@ -3,6 +3,8 @@ use Rattle.std.specs.Prelude.{◌≡◌, ◌≢◌, Some}
 use Rattle.apf_words.specs.declared.decision.Decision.TheVariants as decisions
 use Rattle.apf_gate.specs.Records.{told_own}
 use Rattle.apf_gate.specs.Tokens.{PassToken}
+use Rattle.apf_line.specs.declared.attempts.Tried.{Tried}
+use Rattle.apf_line.specs.declared.attempts.Tried.TheVariants as tries
 use Rattle.apf_level.specs.declared.answers.Begun.{Begun}
 use Rattle.apf_level.specs.declared.answers.Begun.TheVariants as begins
 use Rattle.apf_level.specs.declared.answers.Begin.{Begin}
@@ -40,3 +42,10 @@ abbrev pub IsDecided : Begun → PassToken → Type 0
 IsDecided begins.Run token = told_own token.pass ≡ Some decisions.Execute
 IsDecided (begins.Over decision) token = (told_own token.pass ≡ Some decision) × (decision ≢ decisions.Execute)
 IsDecided begins.Waits token = ⊥
+
+-- the Pass that an attempt left is what the answer says: of a request that executes, or that is over
+abbrev pub IsKeptInBatch : Tried → PassToken → Type 0
+IsKeptInBatch tries.Run token = IsRunning token
+IsKeptInBatch (tries.Over decision waiters) token = IsDone token
+IsKeptInBatch tries.Blocked token = Unit {0}
+IsKeptInBatch tries.Raced token = Unit {0}

@@ -2,7 +2,6 @@ pub mod Levels
 pub mod Nobody
 pub mod Opening
 pub mod Tokens
-pub mod Attempts
 pub mod Admission
 pub mod Arrivals
 pub mod Shown

@@ -11,8 +11,8 @@ use Rattle.apf_gate.specs.Slots.{next_of}
 use Rattle.apf_gate.specs.Tokens.{PassToken, pass_gate}
 use Rattle.apf_gate.specs.PassSteps.{PassLoadsDecision, PassRenews}
 use Rattle.apf_level.specs.Owing as owing
-use Rattle.apf_level.specs.Attempts.{Attempts, FindsBusy}
-use Rattle.apf_level.specs.declared.answers.Tried.TheVariants as tries
+use Rattle.apf_line.specs.Attempts.{Attempts, FindsBusy}
+use Rattle.apf_line.specs.declared.attempts.Tried.TheVariants as tries
 use Rattle.apf_level.specs.declared.life.answers.Renewed.{Renewed}
 use Rattle.apf_level.specs.declared.life.answers.Renewed.TheVariants as renewed
 use Rattle.apf_level.specs.declared.life.answers.TryAdmit.{TryAdmit}

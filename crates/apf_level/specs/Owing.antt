@@ -4,8 +4,8 @@ use Rattle.apf_words.specs.declared.decision.Decision.{Decision}
 use Rattle.apf_words.specs.declared.decision.Decision.TheVariants as decisions
 use Rattle.apf_gate.specs.declared.answers.TrySetLimit.{TrySetLimit}
 use Rattle.apf_gate.specs.declared.answers.TrySetLimit.TheVariants as setting
-use Rattle.apf_level.specs.declared.answers.Tried.{Tried}
-use Rattle.apf_level.specs.declared.answers.Tried.TheVariants as tries
+use Rattle.apf_line.specs.declared.attempts.Tried.{Tried}
+use Rattle.apf_line.specs.declared.attempts.Tried.TheVariants as tries
 
 -- whether requests waited when an attempt gave its seats back, or the limit was set: then a dispatch is owed
 abbrev pub owed_by : Tried → Bool

@@ -10,16 +10,17 @@ ghost use Rattle.apf_gate.specs.Tokens.{pass_gate};
 ghost use Rattle.apf_line.specs.Tokens.{IsOf};
 ghost use Rattle.apf_level.specs.Tokens.{IsRunning, IsDone};
 ghost use Rattle.apf_level.specs.Admission.{tried_pass, IsTriedTold, TriesToAdmit, SaysOpen};
-ghost use Rattle.apf_level.specs.Attempts.{IsFreshPass, Attempts, TakesOrDecides, IsKeptInBatch, AfterAttempt};
+ghost use Rattle.apf_level.specs.InPlace.{IsKeptInBatch};
+ghost use Rattle.apf_line.specs.Attempts.{IsFreshPass, Attempts, TakesOrDecides, AfterAttempt};
 ghost use Rattle.apf_level.specs.Owing.{owed_by};
 
 use crate::answers::{Tried, TryAdmit};
-use crate::attempts;
 use crate::level::Level;
 use crate::naming::Naming;
 use crate::owing::{Owes, Owing, owes_if};
 use crate::tokens::{Done, Running};
 use apf_gate::Pass;
+use apf_line::attempts;
 
 impl<K: Naming> Level<K> {
     /// Admits the request, if nobody waits and it fits. It takes no lock.

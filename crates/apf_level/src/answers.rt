@@ -5,6 +5,7 @@ ghost use Rattle.apf_level.specs.InPlace.{begin_of, IsLeftBy};
 
 use crate::tokens::{Done, Running, Waiting};
 use apf_gate::Pass;
+pub use apf_line::attempts::Tried;
 use apf_words::Decision;
 
 /// What became of an attempt to be admitted.
@@ -18,20 +19,6 @@ pub enum TryAdmit {
     /// Requests wait, it does not fit, or the level word changed in between. On a level without queues,
     /// the last alone.
     Busy(Pass),
-}
-
-/// What became of an attempt to be admitted, and why it is busy. Its Pass stays in its place.
-#[must_use]
-#[derive(Clone, Copy, PartialEq, Eq)]
-pub enum Tried {
-    /// It executes.
-    Run,
-    /// It is decided so. Where the bool is true a dispatch is owed, as after `TryAdmit::Over`.
-    Over(Decision, bool),
-    /// Requests wait, or it does not fit. Never on a level without queues.
-    Blocked,
-    /// The level word changed in between.
-    Raced,
 }
 
 /// What became of an arrival.

@@ -9,7 +9,7 @@ ghost use Rattle.apf_level.specs.Tokens.{IsInLine};
 ghost use Rattle.apf_level.specs.InPlace.{begin_of, poll_of, IsLeftBy, SaysWaits, IsDecided};
 ghost use Rattle.apf_level.specs.Admission.{polled_pass, admitted_pass, IsAdmittedTold, SaysWaiting, Polls, IsNotExecuted};
 ghost use Rattle.apf_level.specs.Arrivals.{Logs};
-ghost use Rattle.apf_level.specs.Attempts.{IsFreshPass};
+ghost use Rattle.apf_line.specs.Attempts.{IsFreshPass};
 ghost use Rattle.apf_level.specs.LevelCalls.{AfterBegin};
 
 use crate::answers::{Admit, Begin, Begun, Enqueued, Poll, Tried};

@@ -7,8 +7,8 @@
 //! - `queued`: what stands under the lock of a level with queues. `unqueued`: of one without. `shared`: the lock of either.
 //! - `owing`: what is owed once room was made, or a request was cancelled.
 //! - `level`: the level, and how it begins.
-//! - `attempts`: how a request takes its seats outside the lock, at the gate of any level. `admission`: the same at a level,
-//!   and how it gives them back. `arriving`: the steps that may take the lock.
+//! - `admission`: how a request takes its seats outside the lock, by `attempts` of `apf_line`, and how it gives them back.
+//!   `arriving`: the steps that may take the lock.
 //! - `stations`: the calls of a Station. `locked`: those that take the lock.
 //! - `hearing`, `finish`, `report`, `end`: how a level ends, and what it tells then.
 //! - `laws`: what is true of every report.
@@ -18,7 +18,6 @@
 mod admission;
 mod answers;
 mod arriving;
-mod attempts;
 mod end;
 mod finish;
 mod hearing;

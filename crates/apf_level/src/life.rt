@@ -8,7 +8,7 @@
 //! - `queued`: what stands under the lock of a level with queues. `unqueued`: of one without. `shared`: the lock of either.
 //! - `level`: the level, and how it begins.
 //! - `renewing`: a slot goes on to its next request.
-//! - `admission`: the steps of a request outside the lock, by `attempts` of the crate. `arriving`: those that may take it.
+//! - `admission`: the steps of a request outside the lock, by `attempts` of `apf_line`. `arriving`: those that may take it.
 //! - `stations`: the calls of a Station. `locked`: those that take the lock.
 //! - `end`: how a level ends. What it tells then, and what is true of every history of a level, is `apf_line`'s.
 

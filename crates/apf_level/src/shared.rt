@@ -1,6 +1,6 @@
 //! What a level's calls do under its lock, by its response.
 
-ghost use Rattle.apf_level.specs.Attempts.{HasQueuesIf};
+ghost use Rattle.apf_line.specs.Attempts.{HasQueuesIf};
 
 use crate::naming::Naming;
 use crate::queued::QueuedLock;

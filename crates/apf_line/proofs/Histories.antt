@@ -19,7 +19,7 @@ history_of k v b own kept = record {
   low = kept.of_life.low;
   queues_are = sym kept.of_life.deck ∙ own.queues;
   limit_is = sym kept.of_life.limit ∙ own.limit;
-  asks = subst (λ (s : Sizes). AreAsked s b.desk.desk.knows.trace v.costs v.hands v.history) (λ i. record { deck = (sym kept.of_life.deck ∙ own.queues) i; hand = own.hand i }) kept.asks;
+  asks = subst (λ (s : Sizes). AreAsked s b.desk.desk.knows.trace v.costs v.hands v.history) (λ i. record { deck = (sym kept.of_life.deck ∙ own.queues) i; hand = own.hand i }) (kept.asks own.known);
 }
 
 pub is_nothing_yet : (k : LifeId) (trace : List Entry) → IsHistoryOf k trace (nothing_yet k)

@@ -1,6 +1,7 @@
 pub mod Nobody
 pub mod Ended
 pub mod Stopped
+pub mod Knowing
 pub mod Histories
 pub mod Standing
 pub mod Lawful

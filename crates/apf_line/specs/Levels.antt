@@ -33,6 +33,8 @@ pub record IsBookOf (k : LifeId) (b : LifeBookView) : Type 0 where
   pub limit : b.queues.queues.length_limit ≡ k.queue_limit
   pub hand : b.queues.hand ≡ k.sizes.hand
   pub settles : settles_in b.queues ≡ k.settles
+  -- what each request asks for is known by what the Desk's steps found alone
+  pub known : b.queues.known ≡ false
 
 -- the Desk is that of this level, which has no queues: it made no step
 pub record IsIdleOf (k : LifeId) (d : DeskToken) : Type 0 where

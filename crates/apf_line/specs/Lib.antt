@@ -7,3 +7,4 @@ pub mod Promises
 pub mod SeatTime
 pub mod Seats
 pub mod Tries
+pub mod Attempts

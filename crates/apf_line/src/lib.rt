@@ -1,12 +1,14 @@
-//! What every level whose slots are used again has beside its gate: which histories are its own, what its tokens say, where
-//! its book stands while nobody is at it, and how it ends.
+//! What every level whose slots are used again has beside its gate: which histories are its own, what its tokens say, how a
+//! request takes its seats, where its book stands while nobody is at it, and how it ends.
 //!
+//! - `attempts`: how a request takes its seats outside the lock.
 //! - `report`: what the end of a level tells.
 //! - `ending`: how a level ends, of all its tokens.
 //! - `laws`: what is true of every history of a level.
 //! - `taken`: what a request took, by how long it ran.
 #![tactic(auto)]
 
+pub mod attempts;
 mod ending;
 mod laws;
 mod report;

@@ -11,9 +11,10 @@ use Rattle.apf_book.specs.LifeBook.{LifeBookView}
 use Rattle.apf_book.specs.LifeCalls.{HearsLife}
 use Rattle.apf_line.specs.Tokens.{IsDone}
 use Rattle.apf_local.specs.declared.answer.Ask.{Ask}
-use Rattle.apf_local.specs.declared.taking.Took.{Took}
-use Rattle.apf_local.specs.declared.taking.Took.TheVariants as took
-use Rattle.apf_local.specs.Owners.{Takes, Refuses, IsRefusal, IsBegun}
+use Rattle.apf_line.specs.declared.attempts.Tried.{Tried}
+use Rattle.apf_line.specs.declared.attempts.Tried.TheVariants as tries
+use Rattle.apf_line.specs.Attempts.{Takes, Refuses}
+use Rattle.apf_local.specs.Owners.{IsRefusal, IsBegun}
 use Rattle.apf_local.proofs.Hearing.{hears_running, hears_told, hears_trace, goes_on_then, asked_then}
 
 -- a Pass that is over, and was told its decision
@@ -40,10 +41,10 @@ module _ (ask : Ask) (b b' : LifeBookView) (old p p' : PassToken) (same : SameRe
     },
   ))
 
-  pub begun : (t : Took) → t ≢ took.Raced → Takes old.pass t p.pass → asked_in p.pass.knows.trace p.pass.number ≡ Some (record { hash = ask.hash; cost = ask.cost }) → IsBegun ask t p'
-  begun took.Run not takes asked = hears_running b b' p p' same hears (inl takes.0) takes.1
-  begun (took.Over d) not takes asked =
+  pub begun : (t : Tried) → t ≢ tries.Raced → Takes old.pass t p.pass → asked_in p.pass.knows.trace p.pass.number ≡ Some (record { hash = ask.hash; cost = ask.cost }) → IsBegun ask t p'
+  begun tries.Run not takes asked = hears_running b b' p p' same hears (inl takes.0) takes.1
+  begun (tries.Over d w) not takes asked =
       let told = hears_told b b' p p' same hears d takes.1 in
       (over_is_done p' d (hears.state ∙ takes.0) told, told, refused d takes.2)
-  begun took.Blocked not takes asked = (hears.state ∙ takes.0, ap (λ (g : GateId). g.shape.response) same.pass ∙ takes.1, asked_then p.pass.knows.trace p'.pass.knows.trace p.pass.number p'.pass.number (record { hash = ask.hash; cost = ask.cost }) (hears_trace b b' p p' same hears) same.number asked, record { before = old.pass; after = p.pass; number = sym same.number; since = (old.pass.knows.trace, append-nil old.pass.knows.trace); finds = takes.2; goes_on = hears_trace b b' p p' same hears })
-  begun took.Raced not takes asked = absurd (not refl)
+  begun tries.Blocked not takes asked = (hears.state ∙ takes.0, ap (λ (g : GateId). g.shape.response) same.pass ∙ takes.1, asked_then p.pass.knows.trace p'.pass.knows.trace p.pass.number p'.pass.number (record { hash = ask.hash; cost = ask.cost }) (hears_trace b b' p p' same hears) same.number asked, record { before = old.pass; after = p.pass; number = sym same.number; since = (old.pass.knows.trace, append-nil old.pass.knows.trace); finds = takes.2; goes_on = hears_trace b b' p p' same hears })
+  begun tries.Raced not takes asked = absurd (not refl)

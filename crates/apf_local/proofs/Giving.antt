@@ -50,7 +50,7 @@ pub local_same : (a : LocalView) → SameLocal a a
 local_same a = record {
   owner = record {
     gate = refl;
-    book = record { gate = refl; more = record { shape = refl; closed = λ e. e; told = λ r e. refl; trace = ([], refl) }; queues = refl; room = refl; hand = refl; places = refl };
+    book = record { gate = refl; more = record { shape = refl; closed = λ e. e; told = λ r e. refl; trace = ([], refl) }; queues = refl; room = refl; hand = refl; known = refl; places = refl };
     slots = refl;
     stations = refl;
   };

@@ -31,5 +31,6 @@ book_then a b c first then = record {
   queues = then.queues ∙ first.queues;
   room = then.room ∙ first.room;
   hand = then.hand ∙ first.hand;
+  known = then.known ∙ first.known;
   places = then.places ∙ first.places;
 }

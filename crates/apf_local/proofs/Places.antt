@@ -54,6 +54,7 @@ heard o is i q b' ps own same follows so =
       desk = same.gate ∙ is.desk;
       response_is = is.response_is;
       room = same.room ∙ is.room;
+      known = same.known ∙ is.known;
       passes_own = All-set (λ (t : PassToken). pass_gate t ≡ o.gate) o.passes i q own is.passes_own;
       stations_own = is.stations_own;
       all_passes = length-set o.passes i q ∙ is.all_passes;

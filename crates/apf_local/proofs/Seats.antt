@@ -1,6 +1,6 @@
 -- Logs whose settled requests held their seats, from call to call.
-use Rattle.std.proofs.Common.{◌≡◌, ◌≢◌, ◌⊎◌, inl, inr, ℕ, zero, suc, Bool, List, [], ◌∷◌, ◌++◌, length, set, Option, Some, None, refl, sym, ap, ◌∙◌, subst, arith}
-use Rattle.std.specs.Prelude.{map, slice_get, slice_set, All}
+use Rattle.std.proofs.Common.{◌≡◌, ◌≢◌, ◌⊎◌, inl, inr, ℕ, zero, suc, List, [], ◌∷◌, ◌++◌, set, Option, Some, None, refl, sym, ap, ◌∙◌, subst}
+use Rattle.std.specs.Prelude.{map, slice_get, All}
 use Rattle.std.proofs.lemmas.Bool.{cases_eq}
 use Rattle.std.proofs.lemmas.Option.{slice_get-get_or, slice_get_within}
 use Rattle.std.proofs.lemmas.List.{append_assoc}
@@ -16,7 +16,7 @@ use Rattle.apf_gate.specs.Tokens.{GateId, PassToken}
 use Rattle.apf_gate.specs.Traces.{world_of}
 use Rattle.apf_book.specs.Life.{LifeView, then_settled}
 use Rattle.apf_book.specs.LifeBook.{LifeBookView, IsLifeKept, then_came_all}
-use Rattle.apf_book.specs.Said.{saying, sayings}
+use Rattle.apf_book.specs.Said.{saying}
 use Rattle.apf_line.specs.Seats.{HeldSeats, AreSeated}
 use Rattle.apf_line.specs.Tokens.{IsRunning}
 use Rattle.apf_local.specs.declared.answer.Answer.{Answer}

@@ -9,8 +9,8 @@ use Rattle.apf_local.specs.declared.admitting.Admitted.TheVariants as admitted
 use Rattle.apf_local.specs.declared.answer.Ask.{Ask}
 use Rattle.apf_local.specs.declared.answer.Place.{Place}
 use Rattle.apf_local.specs.declared.answer.Place.TheVariants as places
-use Rattle.apf_local.specs.declared.taking.Took.{Took}
-use Rattle.apf_local.specs.declared.taking.Took.TheVariants as took
+use Rattle.apf_line.specs.declared.attempts.Tried.{Tried}
+use Rattle.apf_line.specs.declared.attempts.Tried.TheVariants as tries
 use Rattle.apf_local.specs.Worlds.{HasComeIn}
 use Rattle.apf_local.specs.Owners.{OwnerView, SameOwner, Stay, IsBegun}
 use Rattle.apf_local.specs.Tries.{answer_of_try, place_of_try, Tries, IsTry}
@@ -78,24 +78,24 @@ module _ (l : LocalView) (is : IsLocal l) (o1 o2 : OwnerView) (first : SameOwner
     stopped = stopped;
   }
 
-pub at_of_try : (ask : Ask) (x : Took) (t : PassToken) → IsBegun ask x t → IsAt (place_of_try x) t
-at_of_try ask took.Run t is = is
-at_of_try ask (took.Over d) t is = is.0
-at_of_try ask took.Blocked t is = record { back = inl is.0; may = inl is.0 }
-at_of_try ask took.Raced t is = absurd is
+pub at_of_try : (ask : Ask) (x : Tried) (t : PassToken) → IsBegun ask x t → IsAt (place_of_try x) t
+at_of_try ask tries.Run t is = is
+at_of_try ask (tries.Over d w) t is = is.0
+at_of_try ask tries.Blocked t is = record { back = inl is.0; may = inl is.0 }
+at_of_try ask tries.Raced t is = absurd is
 
-pub is_try : (slot : ℕ) (ask : Ask) (l l' : LocalView) (x : Took) → SlotMoves slot l l' (Tries ask (answer_of_try x)) → IsTry slot ask l (answer_of_try x) l'
-is_try slot ask l l' took.Run moves = moves
-is_try slot ask l l' (took.Over d) moves = moves
-is_try slot ask l l' took.Blocked moves = moves
-is_try slot ask l l' took.Raced moves = moves
+pub is_try : (slot : ℕ) (ask : Ask) (l l' : LocalView) (x : Tried) → SlotMoves slot l l' (Tries ask (answer_of_try x)) → IsTry slot ask l (answer_of_try x) l'
+is_try slot ask l l' tries.Run moves = moves
+is_try slot ask l l' (tries.Over d w) moves = moves
+is_try slot ask l l' tries.Blocked moves = moves
+is_try slot ask l l' tries.Raced moves = moves
 
 -- who tried does not wait
-pub try_waits_not : (x : Took) → place_of_try x ≡ places.Waits → ⊥
-try_waits_not took.Run is = cc
-try_waits_not (took.Over d) is = cc
-try_waits_not took.Blocked is = cc
-try_waits_not took.Raced is = cc
+pub try_waits_not : (x : Tried) → place_of_try x ≡ places.Waits → ⊥
+try_waits_not tries.Run is = cc
+try_waits_not (tries.Over d w) is = cc
+try_waits_not tries.Blocked is = cc
+try_waits_not tries.Raced is = cc
 
 -- where one waits, that is answered
 pub waits_of : (a : Admitted) → place_of a ≡ places.Waits → a ≡ admitted.Waits

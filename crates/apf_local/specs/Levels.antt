@@ -17,6 +17,8 @@ use Rattle.apf_book.specs.Life.{LifeView, asked, then_came, then_settled, then_s
 use Rattle.apf_book.specs.LifeBook.{LifeBookView, IsLifeKept, then_came_all}
 use Rattle.apf_book.specs.RecentEvents.{event_of}
 use Rattle.apf_book.specs.Servings.{AreServings}
+use Rattle.apf_line.specs.declared.attempts.Tried.{Tried}
+use Rattle.apf_line.specs.declared.attempts.Tried.TheVariants as tries
 use Rattle.apf_line.specs.declared.report.Report.{Report}
 use Rattle.apf_line.specs.Levels.{LifeId}
 use Rattle.apf_line.specs.Reports.{EndedAs}
@@ -31,8 +33,6 @@ use Rattle.apf_local.specs.declared.answer.Place.TheVariants as places
 use Rattle.apf_local.specs.declared.answer.Settlement.{Settlement}
 use Rattle.apf_local.specs.declared.admitting.Admitted.{Admitted}
 use Rattle.apf_local.specs.declared.admitting.Admitted.TheVariants as admitted
-use Rattle.apf_local.specs.declared.taking.Took.{Took}
-use Rattle.apf_local.specs.declared.taking.Took.TheVariants as took
 use Rattle.apf_local.specs.Worlds.{HasComeIn}
 use Rattle.apf_local.specs.Owners.{OwnerView, SameOwner, GivesBack, IsBegun, IsSlotOf, IsUsedUp}
 
@@ -113,15 +113,15 @@ LogsOne v r hand cost answer None b' = (answer ≢ admitted.Waits) × (answer �
 LogsOne v r hand cost answer (Some event) b' = IsEventOf r answer (event_of event) × (has_arrived v.history r ≡ false) × IsLifeKept (then_came (asked v r hand cost) (event_of event)) b'
 
 -- what is answered of a request follows from what its try came to: only one that found no seats stands in line
-abbrev pub Follows : Took → Admitted → Type 0
-Follows took.Run answer = answer ≡ admitted.Run
-Follows (took.Over decision) answer = answer ≡ admitted.Over decision
-Follows took.Blocked answer = Unit {0}
-Follows took.Raced answer = ⊥
+abbrev pub Follows : Tried → Admitted → Type 0
+Follows tries.Run answer = answer ≡ admitted.Run
+Follows (tries.Over decision waiting) answer = answer ≡ admitted.Over decision
+Follows tries.Blocked answer = Unit {0}
+Follows tries.Raced answer = ⊥
 
 -- the request tried to take its seats before it is answered so
 pub record HasTried (ask : Ask) (answer : Admitted) (after : PassToken) : Type 0 where
-  pub took : Took
+  pub took : Tried
   pub then : PassToken
   pub number : after.pass.number ≡ then.pass.number
   pub is : IsBegun ask took then

@@ -9,12 +9,10 @@ use Rattle.apf_model.specs.declared.response.Response.TheVariants.{Queue, Reject
 use Rattle.apf_history.specs.declared.events.Event.TheVariants.{Strike}
 use Rattle.apf_model.specs.History.{has_arrived}
 use Rattle.apf_model.specs.Charged.{charge_of}
-use Rattle.apf_gate.specs.declared.answers.TryTake.TheVariants as tried
 use Rattle.apf_gate.specs.declared.record.State.TheVariants as states
 use Rattle.apf_gate.specs.declared.record.Entry.{Entry}
 use Rattle.apf_gate.specs.declared.record.PassRecord.{PassRecord}
 use Rattle.apf_gate.specs.Lost.{PassesSawAtMost, StationsSawAtMost}
-use Rattle.apf_gate.specs.PassCalls.{TriesToTake}
 use Rattle.apf_gate.specs.PassSteps.{PassSubtractsLevel, PassLoadsDecision}
 use Rattle.apf_gate.specs.Records.{told_own, KnowsMore}
 use Rattle.apf_gate.specs.StationCalls.{TriesToSet}
@@ -30,12 +28,12 @@ use Rattle.apf_book.specs.Life.{LifeView, IsAskedBy, then_came, then_settled, ch
 use Rattle.apf_book.specs.LifeBook.{LifeBookView, IsLifeKept, arrived_in}
 use Rattle.apf_book.specs.LifeCalls.{SameLifeBook}
 use Rattle.apf_line.specs.Tokens.{IsDone, IsInLine, IsRunning}
-use Rattle.apf_line.specs.Tries.{FindsNoSeats, FoundNoSeatsSince}
+use Rattle.apf_line.specs.Tries.{FoundNoSeatsSince}
+use Rattle.apf_line.specs.declared.attempts.Tried.{Tried}
+use Rattle.apf_line.specs.declared.attempts.Tried.TheVariants as tries
 use Rattle.apf_local.specs.declared.answer.Ask.{Ask}
 use Rattle.apf_local.specs.declared.answer.Settlement.{Settlement}
 use Rattle.apf_local.specs.Worlds.{HasComeIn}
-use Rattle.apf_local.specs.declared.taking.Took.{Took}
-use Rattle.apf_local.specs.declared.taking.Took.TheVariants as took
 
 pub record OwnerView : Type 0 where
   pub gate : GateId
@@ -50,6 +48,8 @@ pub record IsOwner (o : OwnerView) : Type 0 where
   pub desk : desk_gate o.book.desk ≡ o.gate
   pub response_is : o.response ≡ o.gate.shape.response
   pub room : o.book.notes.capacity ≡ 2 * o.gate.shape.slots
+  -- what each request asks for is known by what the Desk's steps found alone
+  pub known : o.book.queues.known ≡ false
   pub passes_own : All (λ (t : PassToken). pass_gate t ≡ o.gate) o.passes
   pub stations_own : All (λ (t : StationToken). station_gate t ≡ o.gate) o.stations
   pub all_passes : length o.passes ≡ o.gate.shape.slots
@@ -81,25 +81,6 @@ pub record Moves (slot : ℕ) (old new : List PassToken) (Does : PassToken → P
   pub now : new ≡ slice_set old slot after
   pub does : Does before after
 
--- at a gate without queues it found no seats, and then decided
-pub record FindsNoRoom (pass pass' : PassRecord) : Type 0 where
-  pub no_queues : pass'.knows.shape.response ≡ Reject
-  pub found : PassRecord
-  pub number : pass'.number ≡ found.number
-  pub finds : FindsNoSeats pass found
-  pub goes_on : (newer : List Entry) × (newer ++ found.knows.trace ≡ pass'.knows.trace)
-
--- a request that took no seats was decided so by its own Pass, or cancelled
-abbrev pub Refuses : PassRecord → Decision → PassRecord → Type 0
-Refuses pass decision pass' = (decision ≡ Closed) ⊎ ((decision ≡ Cancelled) ⊎ ((decision ≡ ConcurrencyLimit) × FindsNoRoom pass pass'))
-
--- what a Pass that was fresh came to by its own steps
-abbrev pub Takes : PassRecord → Took → PassRecord → Type 0
-Takes pass took.Run pass' = (pass'.state ≡ states.Took) × (told_own pass' ≡ Some Execute)
-Takes pass (took.Over decision) pass' = (pass'.state ≡ states.Over) × (told_own pass' ≡ Some decision) × Refuses pass decision pass'
-Takes pass took.Blocked pass' = (pass'.state ≡ states.Fresh) × (pass'.knows.shape.response ≡ Queue) × FindsNoSeats pass pass'
-Takes pass took.Raced pass' = TriesToTake pass tried.Raced pass'
-
 -- the request of this Pass tried to take its seats, and found none
 abbrev pub FoundNoSeats : PassToken → Type 0
 FoundNoSeats token = FoundNoSeatsSince [] token.pass.number token.pass.knows.trace
@@ -109,18 +90,18 @@ abbrev pub IsRefusal : PassToken → Decision → Type 0
 IsRefusal token decision = (decision ≡ Closed) ⊎ ((decision ≡ Cancelled) ⊎ ((decision ≡ ConcurrencyLimit) × (token.pass.knows.shape.response ≡ Reject) × FoundNoSeats token))
 
 -- where the slot's next request is, by what its try came to
-abbrev pub IsBegun : Ask → Took → PassToken → Type 0
-IsBegun ask took.Run token = IsRunning token
-IsBegun ask (took.Over decision) token = IsDone token × (told_own token.pass ≡ Some decision) × IsRefusal token decision
-IsBegun ask took.Blocked token = (token.pass.state ≡ states.Fresh) × (token.pass.knows.shape.response ≡ Queue) × (asked_in token.pass.knows.trace token.pass.number ≡ Some (record { hash = ask.hash; cost = ask.cost })) × FoundNoSeats token
-IsBegun ask took.Raced token = ⊥
+abbrev pub IsBegun : Ask → Tried → PassToken → Type 0
+IsBegun ask tries.Run token = IsRunning token
+IsBegun ask (tries.Over decision waiting) token = IsDone token × (told_own token.pass ≡ Some decision) × IsRefusal token decision
+IsBegun ask tries.Blocked token = (token.pass.state ≡ states.Fresh) × (token.pass.knows.shape.response ≡ Queue) × (asked_in token.pass.knows.trace token.pass.number ≡ Some (record { hash = ask.hash; cost = ask.cost })) × FoundNoSeats token
+IsBegun ask tries.Raced token = ⊥
 
 -- the slot was given to as many requests of this width as it can be
 abbrev pub IsUsedUp : GateId → ℕ → PassToken → Type 0
 IsUsedUp gate width token = length gate.shape.widths ≤ next_of token.pass.number width
 
 -- the slot went on to its next request, of this width
-pub record Begins (ask : Ask) (took : Took) (before after : PassToken) : Type 0 where
+pub record Begins (ask : Ask) (took : Tried) (before after : PassToken) : Type 0 where
   pub number : after.pass.number ≡ next_of before.pass.number ask.width
   pub is : IsBegun ask took after
 

@@ -8,34 +8,34 @@ use Rattle.apf_gate.specs.PassSteps.{PassLoadsDecision}
 use Rattle.apf_gate.specs.Records.{told_own}
 use Rattle.apf_gate.specs.Slots.{next_of}
 use Rattle.apf_gate.specs.Tokens.{PassToken}
+use Rattle.apf_line.specs.declared.attempts.Tried.{Tried}
+use Rattle.apf_line.specs.declared.attempts.Tried.TheVariants as tries
 use Rattle.apf_local.specs.declared.answer.Ask.{Ask}
 use Rattle.apf_local.specs.declared.answer.Answer.{Answer}
 use Rattle.apf_local.specs.declared.answer.Answer.TheVariants as answers
 use Rattle.apf_local.specs.declared.answer.Place.{Place}
 use Rattle.apf_local.specs.declared.answer.Place.TheVariants as places
-use Rattle.apf_local.specs.declared.taking.Took.{Took}
-use Rattle.apf_local.specs.declared.taking.Took.TheVariants as took
 use Rattle.apf_local.specs.Owners.{IsBegun, IsSlotOf, IsUsedUp}
 use Rattle.apf_local.specs.Levels.{LocalView, SlotMoves, IsAt}
 
 -- a request that did not take its seats, since others wait or it does not fit, is busy
-abbrev pub answer_of_try : Took → Answer
-answer_of_try took.Run = answers.Run
-answer_of_try (took.Over decision) = answers.Over decision
-answer_of_try took.Blocked = answers.Busy
-answer_of_try took.Raced = answers.Busy
+abbrev pub answer_of_try : Tried → Answer
+answer_of_try tries.Run = answers.Run
+answer_of_try (tries.Over decision waiting) = answers.Over decision
+answer_of_try tries.Blocked = answers.Busy
+answer_of_try tries.Raced = answers.Busy
 
-abbrev pub place_of_try : Took → Place
-place_of_try took.Run = places.Runs
-place_of_try (took.Over decision) = places.Free
-place_of_try took.Blocked = places.Free
-place_of_try took.Raced = places.Free
+abbrev pub place_of_try : Tried → Place
+place_of_try tries.Run = places.Runs
+place_of_try (tries.Over decision waiting) = places.Free
+place_of_try tries.Blocked = places.Free
+place_of_try tries.Raced = places.Free
 
 -- a free slot went on to its next request, which tried, and is where the answer says. That of a request that is busy is free
 pub record Tries (ask : Ask) (answer : Answer) (place : Place) (before : PassToken) (place' : Place) (after : PassToken) : Type 0 where
   pub was_free : place ≡ places.Free
   pub number : after.pass.number ≡ next_of before.pass.number ask.width
-  pub took : Took
+  pub took : Tried
   pub answer_is : answer ≡ answer_of_try took
   pub place_is : place' ≡ place_of_try took
   pub is : IsBegun ask took after

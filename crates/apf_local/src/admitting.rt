@@ -6,14 +6,14 @@ ghost use Rattle.apf_flow.specs.Deal.{hand_of};
 ghost use Rattle.apf_book.specs.Life.{sizes_of};
 ghost use Rattle.apf_line.specs.Tokens.{IsDone};
 ghost use Rattle.apf_local.specs.Owners.{SameOwner, Moves, IsSlotOf, IsUsedUp, IsBegun};
-ghost use Rattle.apf_local.specs.declared.taking.Took.TheVariants as took;
+ghost use Rattle.apf_line.specs.declared.attempts.Tried.TheVariants as tries;
 ghost use Rattle.apf_local.specs.Levels.{Admits, Stands, answer_of, place_of};
 
 use crate::answer::{Answer, Ask, Place};
 use crate::owner::Owner;
-use crate::taking::Took;
 use apf_book::{Arrived, LifeEvent};
 use apf_flow::Dealer;
+use apf_line::attempts::Tried;
 use apf_words::Decision;
 
 /// What became of a request that arrived.
@@ -74,10 +74,10 @@ pub fn admit(
     ensures admits { IfSome result (λ a. Moves slot owner.old.passes owner.new.passes (Admits ask (hand_of dealer.now ask.hash) owner.old.book a.0 a.1 owner.new.book)) }
 {
     match owner.begin(slot, ask)? {
-        Took::Run => Some((Admitted::Run, None)),
-        Took::Over(decision) => Some((Admitted::Over(decision), None)),
-        Took::Blocked => Some(enqueue(owner, dealer, slot, ask)),
-        Took::Raced => unreachable!(),
+        Tried::Run => Some((Admitted::Run, None)),
+        Tried::Over(decision, _waiting) => Some((Admitted::Over(decision), None)),
+        Tried::Blocked => Some(enqueue(owner, dealer, slot, ask)),
+        Tried::Raced => unreachable!(),
     }
 }
 
@@ -89,7 +89,7 @@ fn enqueue(
     ask: Ask,
 ) -> (Admitted, Option<LifeEvent>)
     requires is_slot { slot < length owner.old.passes }
-    requires begun { IsSlotOf owner.old.passes slot (IsBegun ask took.Blocked) }
+    requires begun { IsSlotOf owner.old.passes slot (IsBegun ask tries.Blocked) }
     requires dealt { dealer.now ≡ sizes_of owner.old.book.queues }
     requires some_cost { 1 ≤ ask.cost }
     requires low_cost { ask.cost ≤ max_cost }

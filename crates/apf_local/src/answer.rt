@@ -1,6 +1,10 @@
 //! What a request asks for, and what the calls of a level answer.
 
+ghost use Rattle.std.specs.Prelude.{◌≡◌};
+ghost use Rattle.apf_local.specs.Tries.{answer_of_try, place_of_try};
+
 use apf_book::Charge;
+use apf_line::attempts::Tried;
 use apf_words::Decision;
 
 /// What a request asks for.
@@ -34,6 +38,19 @@ pub enum Place {
     Runs,
 }
 
+impl Place {
+    // Where a request is that tried to take its seats.
+    pub(crate) fn of_try(tried: Tried) -> Place
+        ensures { result ≡ place_of_try tried }
+    {
+        match tried {
+            Tried::Run => Place::Runs,
+            Tried::Over(_decision, _waiting) => Place::Free,
+            Tried::Blocked | Tried::Raced => Place::Free,
+        }
+    }
+}
+
 /// What became of a slot's request by a call.
 #[derive(Clone, Copy, Debug, PartialEq, Eq)]
 pub enum Answer {
@@ -51,4 +68,17 @@ pub enum Answer {
     Spent,
     /// The call is not for a slot whose request is where this one is. Nothing was done.
     Wrong,
+}
+
+impl Answer {
+    // What is answered of a request that tried to take its seats.
+    pub(crate) fn of_try(tried: Tried) -> Answer
+        ensures { result ≡ answer_of_try tried }
+    {
+        match tried {
+            Tried::Run => Answer::Run,
+            Tried::Over(decision, _waiting) => Answer::Over(decision),
+            Tried::Blocked | Tried::Raced => Answer::Busy,
+        }
+    }
 }

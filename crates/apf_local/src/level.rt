@@ -248,12 +248,12 @@ impl LocalLevel {
             Place::Free => {}
             Place::Waits | Place::Runs => return Answer::Wrong,
         }
-        let Some(took) = self.owner.begin(slot, ask) else {
+        let Some(tried) = self.owner.begin(slot, ask) else {
             return Answer::Spent;
         };
-        self.places[slot] = took.place();
+        self.places[slot] = Place::of_try(tried);
         self.owner.dispatch();
-        took.answer()
+        Answer::of_try(tried)
     }
 
     /// Where the slot's request is. One that waits reads its decision, and one that is cancelled leaves its queue. Then

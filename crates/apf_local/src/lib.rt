@@ -3,7 +3,7 @@
 //!
 //! - `level`: the level, by its slots.
 //! - `answer`: what a request asks for, what the calls of the level answer, and what a settlement changed. `fault`: why it is not opened.
-//! - `admitting`: the arrival of a request. `reading`: what one that waits reads. `taking`: what its Pass does of its own between two hearings.
+//! - `admitting`: the arrival of a request. `reading`: what one that waits reads.
 //! - `owner`: a gate, its book and all of its tokens in one hand, so that no exchange is ever lost.
 //! - `laws`: what is true of every call.
 #![tactic(auto)]
@@ -15,7 +15,6 @@ mod laws;
 mod level;
 mod owner;
 mod reading;
-mod taking;
 
 pub use answer::{Answer, Ask, Place, Settlement};
 pub use apf_book::{Charge, Settling};

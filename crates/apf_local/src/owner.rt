@@ -17,6 +17,7 @@ ghost use Rattle.apf_book.specs.LifeCalls.{IsAsk};
 ghost use Rattle.apf_line.specs.Tokens.{IsDone, IsInLine, IsRunning};
 ghost use Rattle.apf_queue.specs.View.{queue_count, max_charge};
 ghost use Rattle.apf_book.specs.RecentEvents.{AreLifeStats, CopiesLate};
+ghost use Rattle.apf_line.specs.Attempts.{HasQueuesIf};
 ghost use Rattle.apf_line.specs.Levels.{LifeId};
 ghost use Rattle.apf_line.specs.Reports.{EndedBy};
 ghost use Rattle.apf_line.specs.Seats.{HeldSeats};
@@ -27,7 +28,6 @@ ghost use Rattle.apf_local.specs.Owners.{SameOwner, Moves, Stay, Begins, IsBlock
 
 use crate::answer::{Ask, Settlement};
 use crate::fault::OpenFault;
-use crate::taking::{Took, take};
 use apf_book::{
     Arrived, BookFault, Charge, Copied, LifeBook, LifeEvent, LifeStats, Settling, TryDispatch,
 };
@@ -35,6 +35,7 @@ use apf_flow::Dealer;
 use apf_gate::{
     Cancel, Close, Gate, Pass, Renew, Station, Ticket, TrySetLimit, no_exchange_is_lost,
 };
+use apf_line::attempts::{Tried, take};
 use apf_line::{Report, close_book, end_level, every_level_has_histories};
 use apf_model::{Config, Response};
 use apf_words::{Decision, LevelWord};
@@ -78,6 +79,16 @@ fn settings(config: &Config) -> Config
             hand_size: 1,
             limit_response: Response::Reject,
         },
+    }
+}
+
+// Whether a level of this response has queues.
+fn has_queues(response: Response) -> bool
+    ensures { HasQueuesIf result response }
+{
+    match response {
+        Response::Queue => true,
+        Response::Reject => false,
     }
 }
 
@@ -218,7 +229,7 @@ impl Owner {
 
     /// The slot goes on to its next request, which takes its seats if the level is open, nobody waits and they fit. `None`
     /// if the slot's numbers are used up: then nothing was done.
-    pub fn begin(&mut self, slot: usize, ask: Ask) -> Option<Took>
+    pub fn begin(&mut self, slot: usize, ask: Ask) -> Option<Tried>
         requires is_slot { slot < length self.old.passes }
         requires free { IsSlotOf self.old.passes slot IsDone }
         requires some_width { 1 ≤ ask.width }
@@ -226,7 +237,7 @@ impl Owner {
         ensures same { SameOwner self.old self.new }
         ensures spent { IfNone result (self.new ≡ self.old) }
         ensures used_up { IfNone result (IsSlotOf self.old.passes slot (IsUsedUp self.old.gate ask.width)) }
-        ensures begins { IfSome result (λ took. Moves slot self.old.passes self.new.passes (Begins ask took)) }
+        ensures begins { IfSome result (λ tried. Moves slot self.old.passes self.new.passes (Begins ask tried)) }
         ensures operators { self.new.stations ≡ self.old.stations }
         ensures history { (v : LifeView) → IsLifeKept v self.old.book → IsLifeKept v self.new.book }
     {
@@ -238,8 +249,12 @@ impl Owner {
             Renew::Began(_decision) => {}
         }
         self.book.hear(&self.gate, &mut self.passes[slot]);
-        let took = take(&self.gate, self.response, &mut self.passes[slot]);
-        if took == Took::Raced {
+        let tried = take(
+            &self.gate,
+            has_queues(self.response),
+            &mut self.passes[slot],
+        );
+        if tried == Tried::Raced {
             gather(
                 self.alloc,
                 &self.gate,
@@ -251,7 +266,7 @@ impl Owner {
             unreachable!();
         }
         self.book.hear(&self.gate, &mut self.passes[slot]);
-        Some(took)
+        Some(tried)
     }
 
     /// The slot's request, which took no seats, arrives in the line, with its hand of queues and what its dispatch is

@@ -16,8 +16,8 @@ use Rattle.apf_book.specs.Life.{LifeView}
 use Rattle.apf_book.specs.LifeBook.{LifeBookView, IsLived}
 use Rattle.apf_local.specs.declared.admitting.Admitted.{Admitted}
 use Rattle.apf_local.specs.declared.admitting.Admitted.TheVariants as admitted
-use Rattle.apf_local.specs.declared.taking.Took.{Took}
-use Rattle.apf_local.specs.declared.taking.Took.TheVariants as took
+use Rattle.apf_line.specs.declared.attempts.Tried.{Tried}
+use Rattle.apf_line.specs.declared.attempts.Tried.TheVariants as tries
 use Rattle.apf_local.specs.declared.answer.Answer.{Answer}
 use Rattle.apf_local.specs.declared.answer.Answer.TheVariants.{Run, Over, Busy, Waits, Released, Spent, Wrong}
 use Rattle.apf_local.specs.declared.answer.Place.{Place}
@@ -55,11 +55,11 @@ came_adds (admitted.Over decision) t width = record { waiting = omega arith; arr
 came_adds admitted.Waits t width = record { waiting = omega arith; arrived = omega arith }
 
 -- where it tried
-tried_adds : (x : Took) (t : Tally) (width n : ℕ) → Adds places.Free (place_of_try x) t (after_arrival width (answer_of_try x) t) (came_by (told_of_attempt n (answer_of_try x)))
-tried_adds took.Run t width n = record { waiting = omega arith; arrived = omega arith }
-tried_adds (took.Over decision) t width n = record { waiting = omega arith; arrived = omega (arith, decided_counted decision t.counts) }
-tried_adds took.Blocked t width n = record { waiting = omega arith; arrived = omega arith }
-tried_adds took.Raced t width n = record { waiting = omega arith; arrived = omega arith }
+tried_adds : (x : Tried) (t : Tally) (width n : ℕ) → Adds places.Free (place_of_try x) t (after_arrival width (answer_of_try x) t) (came_by (told_of_attempt n (answer_of_try x)))
+tried_adds tries.Run t width n = record { waiting = omega arith; arrived = omega arith }
+tried_adds (tries.Over decision waiting) t width n = record { waiting = omega arith; arrived = omega (arith, decided_counted decision t.counts) }
+tried_adds tries.Blocked t width n = record { waiting = omega arith; arrived = omega arith }
+tried_adds tries.Raced t width n = record { waiting = omega arith; arrived = omega arith }
 
 -- an arrival that came is told as one
 came_told : (v : LifeView) (r : ℕ) (hand : List ℕ) (cost n : ℕ) (a : Admitted) (event : Option LifeEvent) (b' : LifeBookView) → LogsIn v r hand cost a event b' → came_by (told_of_arrival n (answer_of a) event) ≡ 1

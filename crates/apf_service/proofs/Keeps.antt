@@ -14,8 +14,8 @@ use Rattle.apf_gate.specs.Slots.{IsTicket, wide, coded_width, round_of, mark_of,
 use Rattle.apf_book.specs.declared.life_event.LifeEvent.{LifeEvent}
 use Rattle.apf_local.specs.declared.admitting.Admitted.{Admitted}
 use Rattle.apf_local.specs.declared.admitting.Admitted.TheVariants as admitted
-use Rattle.apf_local.specs.declared.taking.Took.{Took}
-use Rattle.apf_local.specs.declared.taking.Took.TheVariants as took
+use Rattle.apf_line.specs.declared.attempts.Tried.{Tried}
+use Rattle.apf_line.specs.declared.attempts.Tried.TheVariants as tries
 use Rattle.apf_local.specs.declared.answer.Ask.{Ask}
 use Rattle.apf_local.specs.declared.answer.Answer.{Answer}
 use Rattle.apf_local.specs.declared.answer.Answer.TheVariants.{Run, Over, Busy, Waits, Released, Spent, Wrong}
@@ -130,11 +130,11 @@ module _ (r n w : ℕ) (t : Tally) (next : IsNext w r n) where
   came_goes admitted.Waits = came_waits
 
   -- as its try came out
-  tried_goes : (x : Took) → Goes (record { place = places.Free; number = r }) (record { place = place_of_try x; number = n }) t (after_arrival w (answer_of_try x) t)
-  tried_goes took.Run = came_run
-  tried_goes (took.Over decision) = came_over decision
-  tried_goes took.Blocked = came_busy
-  tried_goes took.Raced = came_busy
+  tried_goes : (x : Tried) → Goes (record { place = places.Free; number = r }) (record { place = place_of_try x; number = n }) t (after_arrival w (answer_of_try x) t)
+  tried_goes tries.Run = came_run
+  tried_goes (tries.Over decision waiting) = came_over decision
+  tried_goes tries.Blocked = came_busy
+  tried_goes tries.Raced = came_busy
 
 -- a request that executed gave its seats back
 free_goes : (r n : ℕ) (t : Tally) → n ≡ r → 1 ≤ t.running → coded_width r ≤ t.seats → Goes (record { place = places.Runs; number = r }) (record { place = places.Free; number = n }) t (finished (coded_width r) t)

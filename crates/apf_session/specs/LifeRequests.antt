@@ -11,9 +11,9 @@ use Rattle.apf_gate.specs.Tokens.{PassToken, pass_gate}
 use Rattle.apf_gate.specs.PassSteps.{PassRenews, PassSubtractsLevel}
 use Rattle.apf_book.specs.declared.life_event.LifeEvent.{LifeEvent}
 use Rattle.apf_book.specs.RecentEvents.{event_of}
-use Rattle.apf_level.specs.declared.answers.Tried.{Tried}
-use Rattle.apf_level.specs.declared.answers.Tried.TheVariants as tries
-use Rattle.apf_level.specs.Attempts.{Attempts}
+use Rattle.apf_line.specs.declared.attempts.Tried.{Tried}
+use Rattle.apf_line.specs.declared.attempts.Tried.TheVariants as tries
+use Rattle.apf_line.specs.Attempts.{Attempts}
 use Rattle.apf_level.specs.declared.answers.Begun.{Begun}
 use Rattle.apf_level.specs.declared.answers.Begun.TheVariants as begins
 use Rattle.apf_level.specs.LifeAdmission.{Polls as Reads}

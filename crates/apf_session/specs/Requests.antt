@@ -9,9 +9,9 @@ use Rattle.apf_gate.specs.declared.record.State.TheVariants.{Fresh}
 use Rattle.apf_gate.specs.Records.{told_own}
 use Rattle.apf_gate.specs.Tokens.{PassToken, pass_gate}
 use Rattle.apf_gate.specs.PassSteps.{PassSubtractsLevel}
-use Rattle.apf_level.specs.declared.answers.Tried.{Tried}
-use Rattle.apf_level.specs.declared.answers.Tried.TheVariants as tries
-use Rattle.apf_level.specs.Attempts.{Attempts}
+use Rattle.apf_line.specs.declared.attempts.Tried.{Tried}
+use Rattle.apf_line.specs.declared.attempts.Tried.TheVariants as tries
+use Rattle.apf_line.specs.Attempts.{Attempts}
 use Rattle.apf_level.specs.Admission.{Polls}
 use Rattle.apf_level.specs.InPlace.{poll_of}
 use Rattle.apf_level.specs.declared.answers.Begun.{Begun}

@@ -8,17 +8,18 @@ ghost use Rattle.apf_gate.specs.PassSteps.{PassSubtractsLevel};
 ghost use Rattle.apf_gate.specs.Tokens.{pass_gate};
 ghost use Rattle.apf_line.specs.Tokens.{IsOf, IsRunning, IsDone};
 ghost use Rattle.apf_level.specs.LifeAdmission.{tried_pass, IsTriedTold, AsksAgain, TriesToAdmit, SaysOpen, owed_by_try};
-ghost use Rattle.apf_level.specs.Attempts.{IsFreshPass, Attempts, TakesOrDecides, IsKeptBy, AfterAttempt};
+ghost use Rattle.apf_line.specs.Attempts.{IsFreshPass, Attempts, TakesOrDecides, IsKeptBy, AfterAttempt};
 ghost use Rattle.apf_level.specs.Owing.{owed_by};
 ghost use Rattle.apf_level.specs.LifeArrivals.{TraceGoesOn};
 ghost use Rattle.apf_level.specs.LifeReleases.{Executes, ReleasesMeasured};
 
+use crate::Owing;
 use crate::life::answers::{Tried, TryAdmit};
 use crate::life::level::Level;
 use crate::life::naming::Naming;
 use crate::life::owing::{Owes, owes_if};
 use crate::life::tokens::{Done, Pass, Running};
-use crate::{Owing, attempts};
+use apf_line::attempts;
 use apf_words::Decision;
 use std::sync::Wait;
 

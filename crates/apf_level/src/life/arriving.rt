@@ -12,7 +12,7 @@ ghost use Rattle.apf_level.specs.InPlace.{IsDecided};
 ghost use Rattle.apf_level.specs.LifeInPlace.{begin_of, poll_of, IsLeftBy, HasEnteredIf};
 ghost use Rattle.apf_level.specs.LifeAdmission.{polled_pass, admitted_pass, begun_of, IsAdmittedTold, SaysWaiting, Polls};
 ghost use Rattle.apf_level.specs.LifeArrivals.{Logs, LogsInLine, TraceGoesOn};
-ghost use Rattle.apf_level.specs.Attempts.{IsFreshPass};
+ghost use Rattle.apf_line.specs.Attempts.{IsFreshPass};
 ghost use Rattle.apf_level.specs.LifeCalls.{AfterBegin};
 
 use crate::life::answers::{Admit, Begin, Begun, Enqueued, Poll, Tried};

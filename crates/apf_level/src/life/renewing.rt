@@ -6,7 +6,7 @@ ghost use Rattle.apf_gate.specs.Records.{own_width};
 ghost use Rattle.apf_gate.specs.Traces.{asked_in};
 ghost use Rattle.apf_gate.specs.PassSteps.{PassRenews};
 ghost use Rattle.apf_line.specs.Tokens.{IsDone};
-ghost use Rattle.apf_level.specs.Attempts.{IsFreshPass};
+ghost use Rattle.apf_line.specs.Attempts.{IsFreshPass};
 ghost use Rattle.apf_words.specs.Limits.{max_cost, max_width};
 ghost use Rattle.apf_gate.specs.Slots.{next_of};
 ghost use Rattle.apf_gate.specs.Tokens.{pass_gate};

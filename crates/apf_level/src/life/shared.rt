@@ -6,7 +6,7 @@ ghost use Rattle.apf_gate.specs.Records.{told_own};
 ghost use Rattle.apf_gate.specs.Slots.{IsTicket};
 ghost use Rattle.apf_gate.specs.Tokens.{pass_gate};
 ghost use Rattle.apf_line.specs.Tokens.{IsOf, IsInLine};
-ghost use Rattle.apf_level.specs.Attempts.{HasQueuesIf};
+ghost use Rattle.apf_line.specs.Attempts.{HasQueuesIf};
 ghost use Rattle.apf_level.specs.LifeArrivals.{TraceGoesOn};
 
 use crate::life::naming::Naming;

@@ -6,7 +6,7 @@ ghost use Rattle.apf_gate.specs.Tokens.{pass_gate};
 ghost use Rattle.apf_gate.specs.Traces.{asked_in};
 ghost use Rattle.apf_line.specs.Tokens.{IsDone};
 ghost use Rattle.apf_level.specs.LifeArrivals.{TraceGoesOn};
-ghost use Rattle.apf_level.specs.Attempts.{IsFreshPass};
+ghost use Rattle.apf_line.specs.Attempts.{IsFreshPass};
 ghost use Rattle.apf_session.specs.LifeOpenings.{IsFirstOf};
 ghost use Rattle.apf_run.specs.RoundsPlans.{HasWidth, IsNamedIn, AreOrders};
 ghost use Rattle.apf_run.specs.RoundsWorkers.{IsInRound, KeepsKnowing, IsKnown, HasAsked, IsLoadOf, IsReady, IsThrough};

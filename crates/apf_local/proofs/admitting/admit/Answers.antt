@@ -5,8 +5,8 @@ use Rattle.apf_words.specs.declared.decision.Decision.{Decision}
 use Rattle.apf_words.specs.declared.decision.Decision.TheVariants.{Execute, QueueFull, Closed, Cancelled, ConcurrencyLimit}
 use Rattle.apf_gate.specs.Tokens.{PassToken}
 use Rattle.apf_local.specs.declared.admitting.Admitted.TheVariants as admitted
-use Rattle.apf_local.specs.declared.taking.Took.{Took}
-use Rattle.apf_local.specs.declared.taking.Took.TheVariants as took
+use Rattle.apf_line.specs.declared.attempts.Tried.{Tried}
+use Rattle.apf_line.specs.declared.attempts.Tried.TheVariants as tries
 use Rattle.apf_local.specs.Owners.{Moves, Begins, IsRefusal}
 use Rattle.apf_local.proofs.Places.{set_again}
 use Rattle.apf_local.proofs.Slots.{owner_then, get_same}
@@ -24,7 +24,7 @@ not_full t d (inr (inr no_room)) is = let z : admitted.Over ConcurrencyLimit ≡
 
 pub returns-in-Run-clause-admits : goal.returns-in-Run-clause-admits
 returns-in-Run-clause-admits c =
-    let moves : Moves c.args.slot c.args.owner.now.passes c.begin.new.self.passes (Begins c.args.ask took.Run) = subst (λ (t : Took). Moves c.args.slot c.args.owner.now.passes c.begin.new.self.passes (Begins c.args.ask t)) c.in-Run.is c.in_ok-begin.ensures.begins in
+    let moves : Moves c.args.slot c.args.owner.now.passes c.begin.new.self.passes (Begins c.args.ask tries.Run) = subst (λ (t : Tried). Moves c.args.slot c.args.owner.now.passes c.begin.new.self.passes (Begins c.args.ask t)) c.in-Run.is c.in_ok-begin.ensures.begins in
     record {
       before = moves.before;
       after = moves.after;
@@ -33,7 +33,7 @@ returns-in-Run-clause-admits c =
       does = record {
         number = moves.does.number;
         is = moves.does.is;
-        tried = record { took = took.Run; then = moves.after; number = refl; is = moves.does.is; follows = refl };
+        tried = record { took = tries.Run; then = moves.after; number = refl; is = moves.does.is; follows = refl };
         came = λ e. cc;
         history = λ v kept. ((λ e. cc), (λ e. cc), c.begin.ensures.history v kept);
       };
@@ -42,7 +42,7 @@ returns-in-Run-clause-admits c =
 pub returns-in-Over-clause-admits : goal.returns-in-Over-clause-admits
 returns-in-Over-clause-admits c =
     let d = c.in-Over.decision in
-    let moves : Moves c.args.slot c.args.owner.now.passes c.begin.new.self.passes (Begins c.args.ask (took.Over d)) = subst (λ (t : Took). Moves c.args.slot c.args.owner.now.passes c.begin.new.self.passes (Begins c.args.ask t)) c.in-Over.is c.in_ok-begin.ensures.begins in
+    let moves : Moves c.args.slot c.args.owner.now.passes c.begin.new.self.passes (Begins c.args.ask (tries.Over d c.in-Over._waiting)) = subst (λ (t : Tried). Moves c.args.slot c.args.owner.now.passes c.begin.new.self.passes (Begins c.args.ask t)) c.in-Over.is c.in_ok-begin.ensures.begins in
     record {
       before = moves.before;
       after = moves.after;
@@ -51,7 +51,7 @@ returns-in-Over-clause-admits c =
       does = record {
         number = moves.does.number;
         is = (moves.does.is.0, moves.does.is.1, not_execute moves.after d moves.does.is.2);
-        tried = record { took = took.Over d; then = moves.after; number = refl; is = moves.does.is; follows = refl };
+        tried = record { took = tries.Over d c.in-Over._waiting; then = moves.after; number = refl; is = moves.does.is; follows = refl };
         came = λ e. cc;
         history = λ v kept. ((λ e. cc), not_full moves.after d moves.does.is.2, c.begin.ensures.history v kept);
       };
@@ -64,7 +64,7 @@ pub returns-in-Blocked-clause-admits : goal.returns-in-Blocked-clause-admits
 returns-in-Blocked-clause-admits c =
     let i = c.args.slot in
     let ps = c.args.owner.now.passes in
-    let moves : Moves i ps c.begin.new.self.passes (Begins c.args.ask took.Blocked) = subst (λ (t : Took). Moves i ps c.begin.new.self.passes (Begins c.args.ask t)) c.in-Blocked.is c.in_ok-begin.ensures.begins in
+    let moves : Moves i ps c.begin.new.self.passes (Begins c.args.ask tries.Blocked) = subst (λ (t : Tried). Moves i ps c.begin.new.self.passes (Begins c.args.ask t)) c.in-Blocked.is c.in_ok-begin.ensures.begins in
     let stands = c.enqueue.ensures.stands in
     let same : stands.before ≡ moves.after = get_same ps i moves.after stands.before (subst (λ (xs : List PassToken). slice_get xs i ≡ Some stands.before) moves.now stands.was) in
     record {
@@ -75,7 +75,7 @@ returns-in-Blocked-clause-admits c =
       does = record {
         number = stands.does.number ∙ (ap (λ (t : PassToken). t.pass.number) same ∙ moves.does.number);
         is = stands.does.is;
-        tried = record { took = took.Blocked; then = moves.after; number = stands.does.number ∙ ap (λ (t : PassToken). t.pass.number) same; is = moves.does.is; follows = tt };
+        tried = record { took = tries.Blocked; then = moves.after; number = stands.does.number ∙ ap (λ (t : PassToken). t.pass.number) same; is = moves.does.is; follows = tt };
         came = stands.does.came;
         history = λ v kept. stands.does.history v (c.begin.ensures.history v kept);
       };

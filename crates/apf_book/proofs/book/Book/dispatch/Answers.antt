@@ -1,72 +1,30 @@
--- What the turns appended, and where they stopped.
-use Rattle.std.proofs.Common.{rules, inl, inr, ◌∙◌, arith}
-use Rattle.apf_history.specs.declared.events.Event.TheVariants as events
-use Rattle.apf_book.proofs.Knowing.{more_then}
-use Rattle.apf_book.proofs.Stopped.{stopped}
-use Rattle.apf_book.proofs.Turning.{serves_dispatch, serves_strike, longer, misses_then}
+-- What the book for life dispatched is logged.
+use Rattle.std.proofs.Common.{arith}
+use Rattle.apf_book.specs.Batch.{ledger_with, life_of}
+use Rattle.apf_book.proofs.Opened.{opened, unsettled}
+use Rattle.apf_book.proofs.Batches.{begun, fits, small_then, serves_kept, few_served, dispatches_batch, dispatches, same_book}
 use Rattle.apf_book.proofs.book.Book.dispatch.Goals as goal
 
-pub returns-in-None-serve_head_once-clause-same : goal.returns-in-None-serve_head_once-clause-same
-returns-in-None-serve_head_once-clause-same g c = record {
-  gate = search rules;
-  more = more_then c.args.self.now.desk.desk.knows c.loop.self.desk.desk.knows c.serve_head_once.new.self.desk.desk.knows c.loop.invariant.more c.in-None-serve_head_once.ensures.same.more;
-  kept = search rules;
-}
-
-pub returns-in-Some-NoRoom-clause-answer : goal.returns-in-Some-NoRoom-clause-answer
-returns-in-Some-NoRoom-clause-answer g c = record {
-  log = search rules;
-  stops = let turned = rw c.in-Some-NoRoom.field-0-is at c.in-Some-NoRoom.ensures.turns in
-      inr (misses_then c.serve_head_once.new.self.ledger c.args.self.now.desk.desk.knows c.loop.self.desk.desk.knows c.serve_head_once.new.self.desk.desk.knows c.loop.invariant.more turned.1);
-  stopped = let turned = rw c.in-Some-NoRoom.field-0-is at c.in-Some-NoRoom.ensures.turns in
-      stopped c.serve_head_once.new.self.ledger c.loop.self.desk.desk.knows c.serve_head_once.new.self.desk.desk.knows c.in-Some-NoRoom.ensures.same.more (inr turned.1);
-}
-
-pub returns-in-Some-NoRoom-clause-same : goal.returns-in-Some-NoRoom-clause-same
-returns-in-Some-NoRoom-clause-same g c = record {
-  gate = search rules;
-  more = more_then c.args.self.now.desk.desk.knows c.loop.self.desk.desk.knows c.serve_head_once.new.self.desk.desk.knows c.loop.invariant.more c.in-Some-NoRoom.ensures.same.more;
-  kept = search rules;
-}
-
-pub loop-preserved-in-Some-Dispatched : goal.loop-preserved-in-Some-Dispatched
-loop-preserved-in-Some-Dispatched g c =
-    let turned = rw c.in-Some-Dispatched.field-0-is at c.in-Some-Dispatched.ensures.turns in
-    let one = longer c.loop.self.ledger c.serve_head_once.new.self.ledger (events.Dispatch turned.0 turned.1) turned.2 in
+pub append_newer-requires : goal.append_newer-requires
+append_newer-requires g c =
+    let laws = opened c.legal_histories_are_in_order.ensures in
+    let serves = c.dispatch-count.ensures.answer (life_of (ledger_with c.self.inside.book c.self.inside.dealer c.self.inside.costs.items c.self.inside.hashes.items c.self.inside.log.items)) c.self.invariant.kept in
+    let kept = serves_kept laws (unsettled c.unsettled_logs_are_fair.ensures) c.self.inside.book c.self.inside.dealer c.self.inside.costs.items c.self.inside.hashes.items c.self.inside.log.items c.self.inside.arrived.items _ c.self.invariant c.dispatch-count.result c.dispatch-count.new.self c.dispatch-count.ensures.same serves in
     record {
-      iterator = search;
-      gate = c.in-Some-Dispatched.ensures.same.gate ∙ c.loop.invariant.gate;
-      serves = serves_dispatch c.args.self.now.ledger c.loop.self.ledger c.serve_head_once.new.self.ledger c.loop.count turned.0 turned.1 c.loop.invariant.serves turned.2;
-      more = more_then c.args.self.now.desk.desk.knows c.loop.self.desk.desk.knows c.serve_head_once.new.self.desk.desk.knows c.loop.invariant.more c.in-Some-Dispatched.ensures.same.more;
-      within = let before = c.loop.invariant.within in omega arith;
+      begun = begun laws c.self.inside.book c.self.inside.dealer c.self.inside.costs.items c.self.inside.hashes.items c.self.inside.log.items c.self.inside.arrived.items _ c.self.invariant serves.events c.dispatch-count.new.self c.dispatch-count.ensures.same kept;
+      room = fits laws c.self.inside.book c.self.inside.dealer c.self.inside.costs.items c.self.inside.hashes.items c.self.inside.log.items c.self.inside.arrived.items _ c.self.invariant serves.events c.dispatch-count.new.self c.dispatch-count.ensures.same kept;
+      small = small_then laws c.self.inside.book c.self.inside.dealer c.self.inside.costs.items c.self.inside.hashes.items c.self.inside.log.items c.self.inside.arrived.items _ c.self.invariant serves.events c.dispatch-count.new.self c.dispatch-count.ensures.same kept;
     }
 
-pub loop-preserved-in-Some-Struck : goal.loop-preserved-in-Some-Struck
-loop-preserved-in-Some-Struck g c =
-    let turned = rw c.in-Some-Struck.field-0-is at c.in-Some-Struck.ensures.turns in
-    let one = longer c.loop.self.ledger c.serve_head_once.new.self.ledger (events.Strike turned.0 turned.1) turned.2 in
-    record {
-      iterator = search;
-      gate = c.in-Some-Struck.ensures.same.gate ∙ c.loop.invariant.gate;
-      serves = serves_strike c.args.self.now.ledger c.loop.self.ledger c.serve_head_once.new.self.ledger c.loop.count turned.0 turned.1 c.loop.invariant.serves turned.2;
-      more = more_then c.args.self.now.desk.desk.knows c.loop.self.desk.desk.knows c.serve_head_once.new.self.desk.desk.knows c.loop.invariant.more c.in-Some-Struck.ensures.same.more;
-      within = let before = c.loop.invariant.within in omega arith;
-    }
+pub overflow_cast-result : goal.overflow_cast-result
+overflow_cast-result g c = let few = few_served (opened c.legal_histories_are_in_order.ensures) (unsettled c.unsettled_logs_are_fair.ensures) c.self.inside.book c.self.inside.dealer c.self.inside.costs.items c.self.inside.hashes.items c.self.inside.log.items c.self.inside.arrived.items _ c.self.invariant c.dispatch-count.result c.dispatch-count.new.self c.dispatch-count.ensures.same (c.dispatch-count.ensures.answer (life_of (ledger_with c.self.inside.book c.self.inside.dealer c.self.inside.costs.items c.self.inside.hashes.items c.self.inside.log.items)) c.self.invariant.kept) in omega arith
 
-pub loop-preserved : goal.loop-preserved
-loop-preserved g c =
-    let turned = rw c.in-Some-Raced.field-0-is at c.in-Some-Raced.ensures.turns in
-    record {
-      iterator = search;
-      gate = c.in-Some-Raced.ensures.same.gate ∙ c.loop.invariant.gate;
-      serves = rw turned c.loop.invariant.serves;
-      more = more_then c.args.self.now.desk.desk.knows c.loop.self.desk.desk.knows c.serve_head_once.new.self.desk.desk.knows c.loop.invariant.more c.in-Some-Raced.ensures.same.more;
-      within = rw turned c.loop.invariant.within;
-    }
+pub invariant_of-self : goal.invariant_of-self
+invariant_of-self g c =
+    dispatches_batch (opened c.legal_histories_are_in_order.ensures) (unsettled c.unsettled_logs_are_fair.ensures) c.self.inside.book c.self.inside.dealer c.self.inside.costs.items c.self.inside.hashes.items c.self.inside.log.items c.self.inside.arrived.items _ c.self.invariant c.dispatch-count.result c.dispatch-count.new.self c.dispatch-count.ensures.same (c.dispatch-count.ensures.answer (life_of (ledger_with c.self.inside.book c.self.inside.dealer c.self.inside.costs.items c.self.inside.hashes.items c.self.inside.log.items)) c.self.invariant.kept) c.append_newer.new.log.items c.append_newer.ensures.whole _ c.append_newer.ensures.capacity
 
-pub returns-in-None-serve_head_once-clause-answer : goal.returns-in-None-serve_head_once-clause-answer
-returns-in-None-serve_head_once-clause-answer g c = record {
-  log = search rules;
-  stops = search rules;
-  stopped = stopped c.serve_head_once.new.self.ledger c.loop.self.desk.desk.knows c.serve_head_once.new.self.desk.desk.knows c.in-None-serve_head_once.ensures.same.more (inl c.in-None-serve_head_once.ensures.turns.1);
+pub returns : goal.returns
+returns g c = record {
+  same = same_book (unsettled c.unsettled_logs_are_fair.ensures) c.args.self.now c.self.inside.book c.dispatch-count.new.self (ledger_with c.self.inside.book c.self.inside.dealer c.self.inside.costs.items c.self.inside.hashes.items c.self.inside.log.items) _ c.self.inside.arrived.items _ c.self.view_is c.dispatch-count.ensures.same (invariant_of-self g c);
+  answer = dispatches (opened c.legal_histories_are_in_order.ensures) (unsettled c.unsettled_logs_are_fair.ensures) c.self.inside.book c.self.inside.dealer c.self.inside.costs.items c.self.inside.hashes.items c.self.inside.log.items c.self.inside.arrived.items _ c.self.invariant c.dispatch-count.result c.dispatch-count.new.self c.dispatch-count.ensures.same (c.dispatch-count.ensures.answer (life_of (ledger_with c.self.inside.book c.self.inside.dealer c.self.inside.costs.items c.self.inside.hashes.items c.self.inside.log.items)) c.self.invariant.kept) c.append_newer.new.log.items c.append_newer.ensures.whole c.args.self.now c.self.view_is;
 }

@@ -1,115 +1,46 @@
--- A strike: one load, and where that found cancelled a second step.
-use Rattle.std.proofs.Common.{rules, ◌≡◌, ◌≢◌, ℕ, false, List, Some, None, refl, sym, ap, ◌∙◌, subst}
-use Rattle.std.specs.Prelude.{Contains}
-use Rattle.apf_words.specs.declared.decision.Decision.TheVariants.{Cancelled}
-use Rattle.apf_history.specs.declared.events.Event.TheVariants.{Strike}
-use Rattle.apf_model.specs.History.{waiting}
-use Rattle.apf_gate.specs.declared.record.Service.{Service}
-use Rattle.apf_gate.specs.declared.record.Service.TheVariants.{Left}
-use Rattle.apf_gate.specs.Records.{told_of, service_of, KnowsMore}
-use Rattle.apf_book.specs.LedgerView.{LedgerView, IsLogOf}
-use Rattle.apf_book.specs.BookView.{BookView, IsKept}
-use Rattle.apf_book.specs.Servings.{Strikes}
-use Rattle.apf_book.proofs.Opened.{opened}
-use Rattle.apf_book.proofs.Keeping.{member_waits, told_cancelled, struck_is_out, strike_fewer, kept_quiet, kept_after}
-use Rattle.apf_book.proofs.Moving.{moves_to}
-use Rattle.apf_book.proofs.Saying.{loads_decision, leaves}
-use Rattle.apf_book.proofs.Knowing.{more_then, told_still}
-use Rattle.apf_book.proofs.Stopped.{still_stopped}
-use Rattle.apf_book.specs.Stopped.{IsStopped}
+-- What the book for life struck is logged.
+use Rattle.std.proofs.Common.{◌≡◌, ◌∙◌, ℕ, length, inr, ap, subst, arith}
+use Rattle.apf_gate.specs.Tokens.{GateId, desk_gate}
+use Rattle.apf_book.specs.BookView.{BookView}
+use Rattle.apf_book.specs.BookCalls.{StrikesOut}
+use Rattle.apf_book.specs.BookResults.{AfterStrike}
+use Rattle.apf_book.specs.Batch.{ledger_with, life_of, IsBatchGate}
+use Rattle.apf_book.proofs.Opened.{opened, unsettled}
+use Rattle.apf_book.proofs.Batches.{begun, fits, small_then, struck_events, strikes_kept, strikes_batch, strikes_answer, strikes_after, same_book}
 use Rattle.apf_book.proofs.book.Book.strike.Goals as goal
 
-pub returns-in_default-clause-answer : goal.returns-in_default-clause-answer
-returns-in_default-clause-answer g c = record {
-  struck = search rules;
-  stays = search rules;
-  reads = subst (λ (v : BookView). Strikes v.desk.desk c.args.request false ((q : ℕ) × Contains (waiting v.ledger.history q) c.args.request) c.seen.new.desk.desk) c.self.view_is
-      (c.seen.result, c.seen.new.desk.desk, c.seen.ensures.answer, (refl, λ waits found. c.in_default.ensures.nowhere waits.0 waits.1));
-}
+pub strike_seen-struck-requires : goal.strike_seen-struck-requires
+strike_seen-struck-requires g c =
+    let here : desk_gate c.self.inside.book.desk ≡ c.args.gate.now = ap (λ (k : BookView). desk_gate k.desk) c.self.view_is ∙ c.requires.own in
+    let gate : IsBatchGate c.args.gate.now (length c.self.inside.costs.items) = subst (λ (g : GateId). IsBatchGate g (length c.self.inside.costs.items)) here c.self.invariant.gate in
+    let low = c.requires.is_request in let few = c.self.invariant.few in let one = gate.one_slot_each in let batch = gate.batch in let same = c.from.ensures in
+    record {
+      own = here;
+      is_request = record { inside = omega (arith, low, same); in_slot = omega (arith, low, few, one, batch, same); small = omega (arith, low, few, one, batch, same) };
+      has_slot = inr batch;
+    }
 
-pub returns-in_default-clause-after : goal.returns-in_default-clause-after
-returns-in_default-clause-after g c = record {
-  told = λ told q member.
-      c.in_default.ensures.nowhere q (subst (λ (v : LedgerView). Contains (waiting v.history q) c.args.request) c.in_default.ensures.none member);
-  still_stopped = λ _ is.
-      subst (λ (v : LedgerView). IsStopped v c.seen.new.desk.desk.knows) (sym c.in_default.ensures.none)
-      (still_stopped c.self.inside.ledger c.self.inside.desk.desk c.seen.new.desk.desk c.args.request c.seen.result c.seen.ensures.answer (subst (λ (v : BookView). IsStopped v.ledger v.desk.desk.knows) (sym c.self.view_is) is));
-  nobody_new = λ q r member.
-      subst (λ (v : BookView). Contains (waiting v.ledger.history q) r) c.self.view_is (subst (λ (v : LedgerView). Contains (waiting v.history q) r) c.in_default.ensures.none member);
-}
-
-pub returns-clause-after : goal.returns-clause-after
-returns-clause-after g c = record {
-  told = λ told q member.
-      struck_is_out (opened c.legal_histories_are_in_order.ensures).statuses c.self.inside.ledger c.args.request c.in-Some._queue (subst IsLogOf c.in-Some.ensures.some c.in-Some.ensures.sound) q
-      (subst (λ (v : LedgerView). Contains (waiting v.history q) c.args.request) c.in-Some.ensures.some member);
-  still_stopped = search rules;
-  nobody_new = λ q r member.
-      subst (λ (v : BookView). Contains (waiting v.ledger.history q) r) c.self.view_is
-      (strike_fewer (opened c.legal_histories_are_in_order.ensures).follows c.self.inside.ledger c.args.request c.in-Some._queue (subst IsLogOf c.in-Some.ensures.some c.in-Some.ensures.sound) q r
-      (subst (λ (v : LedgerView). Contains (waiting v.history q) r) c.in-Some.ensures.some member));
-}
-
-pub returns-then-ne-clause-after : goal.returns-then-ne-clause-after
-returns-then-ne-clause-after g c = record {
-  told = λ told q member.
-      let before = subst (λ (v : BookView). told_of v.desk.desk.knows.told c.args.request ≢ None) (sym c.self.view_is) told in
-      let cancelled = told_cancelled (opened c.legal_histories_are_in_order.ensures).statuses c.self.inside.desk.desk c.self.inside.ledger c.self.invariant q c.args.request c.seen.result member c.seen.ensures.after.waits (λ none. before (sym (c.seen.ensures.after.stays before) ∙ none)) in
-      absurd (let bad = rw cancelled at c.if-ne.ensures in cc);
-  still_stopped = λ _ is.
-      still_stopped c.self.inside.ledger c.self.inside.desk.desk c.seen.new.desk.desk c.args.request c.seen.result c.seen.ensures.answer (subst (λ (v : BookView). IsStopped v.ledger v.desk.desk.knows) (sym c.self.view_is) is);
-  nobody_new = search rules;
-}
-
-pub leave-requires-clause-waits : goal.leave-requires-clause-waits
-leave-requires-clause-waits g c =
-    ap (λ (services : List (ℕ × Service)). service_of services c.args.request) c.seen.ensures.after.served.0
-    ∙ member_waits (opened c.legal_histories_are_in_order.ensures).statuses c.self.inside.desk.desk c.self.inside.ledger c.self.invariant c.in-Some._queue c.args.request c.in-Some.ensures.waited
-
-pub invariant_of-self-2 : goal.invariant_of-self-2
-invariant_of-self-2 g c =
-    let r : ℕ = c.args.request in
-    let told : told_of c.seen.new.desk.desk.knows.told r ≡ Some Cancelled = search rules in
-    subst (λ (v : LedgerView). IsKept c.leave.new.desk.desk v) (sym c.in-Some.ensures.some)
-    (kept_after c.seen.new.desk.desk c.leave.new.desk.desk c.self.inside.ledger (Strike r c.in-Some._queue) (kept_quiet c.self.inside.desk.desk c.seen.new.desk.desk c.self.inside.ledger c.self.invariant c.seen.ensures.after.served c.seen.ensures.same.more (loads_decision c.self.inside.desk.desk c.seen.new.desk.desk c.args.request c.seen.result c.seen.ensures.answer))
-    (subst IsLogOf c.in-Some.ensures.some c.in-Some.ensures.sound)
-    (moves_to c.seen.new.desk.desk c.leave.new.desk.desk r Left c.leave.ensures.after.services c.leave.ensures.same.more)
-    (leaves c.seen.new.desk.desk c.leave.new.desk.desk r c.leave.ensures.answer.0 c.leave.ensures.answer.1)
-    (c.leave.ensures.after.held ∙ (c.seen.ensures.after.served.1 ∙ c.self.invariant.holds_none))
-    (λ is. told_still c.seen.new.desk.desk.knows c.leave.new.desk.desk.knows r Cancelled c.leave.ensures.same.more told))
-
-pub returns-clause-same : goal.returns-clause-same
-returns-clause-same g c = record {
-  gate = search rules;
-  more = subst (λ (v : BookView). KnowsMore v.desk.desk.knows c.leave.new.desk.desk.knows) c.self.view_is
-      (more_then c.self.inside.desk.desk.knows c.seen.new.desk.desk.knows c.leave.new.desk.desk.knows c.seen.ensures.same.more c.leave.ensures.same.more);
-  kept = let r : ℕ = c.args.request in
-      let told : told_of c.seen.new.desk.desk.knows.told r ≡ Some Cancelled = search rules in
-      subst (λ (v : LedgerView). IsKept c.leave.new.desk.desk v) (sym c.in-Some.ensures.some)
-      (kept_after c.seen.new.desk.desk c.leave.new.desk.desk c.self.inside.ledger (Strike r c.in-Some._queue) (kept_quiet c.self.inside.desk.desk c.seen.new.desk.desk c.self.inside.ledger c.self.invariant c.seen.ensures.after.served c.seen.ensures.same.more (loads_decision c.self.inside.desk.desk c.seen.new.desk.desk c.args.request c.seen.result c.seen.ensures.answer))
-      (subst IsLogOf c.in-Some.ensures.some c.in-Some.ensures.sound)
-      (moves_to c.seen.new.desk.desk c.leave.new.desk.desk r Left c.leave.ensures.after.services c.leave.ensures.same.more)
-      (leaves c.seen.new.desk.desk c.leave.new.desk.desk r c.leave.ensures.answer.0 c.leave.ensures.answer.1)
-      (c.leave.ensures.after.held ∙ (c.seen.ensures.after.served.1 ∙ c.self.invariant.holds_none))
-      (λ is. told_still c.seen.new.desk.desk.knows c.leave.new.desk.desk.knows r Cancelled c.leave.ensures.same.more told));
-}
+pub append_newer-requires : goal.append_newer-requires
+append_newer-requires g c =
+    let laws = opened c.legal_histories_are_in_order.ensures in
+    let kept = strikes_kept laws c.self.inside.book c.self.inside.dealer c.self.inside.costs.items c.self.inside.hashes.items c.self.inside.log.items c.self.inside.arrived.items _ c.self.invariant c.from.result c.strike_seen-struck.result c.strike_seen-struck.new.self c.strike_seen-struck.ensures.same (c.strike_seen-struck.ensures.answer (life_of (ledger_with c.self.inside.book c.self.inside.dealer c.self.inside.costs.items c.self.inside.hashes.items c.self.inside.log.items)) c.self.invariant.kept) in
+    let events = struck_events laws c.self.inside.book c.self.inside.dealer c.self.inside.costs.items c.self.inside.hashes.items c.self.inside.log.items c.self.inside.arrived.items _ c.self.invariant c.from.result c.strike_seen-struck.result c.strike_seen-struck.new.self c.strike_seen-struck.ensures.same (c.strike_seen-struck.ensures.answer (life_of (ledger_with c.self.inside.book c.self.inside.dealer c.self.inside.costs.items c.self.inside.hashes.items c.self.inside.log.items)) c.self.invariant.kept) in
+    record {
+      begun = begun laws c.self.inside.book c.self.inside.dealer c.self.inside.costs.items c.self.inside.hashes.items c.self.inside.log.items c.self.inside.arrived.items _ c.self.invariant events c.strike_seen-struck.new.self c.strike_seen-struck.ensures.same kept;
+      room = fits laws c.self.inside.book c.self.inside.dealer c.self.inside.costs.items c.self.inside.hashes.items c.self.inside.log.items c.self.inside.arrived.items _ c.self.invariant events c.strike_seen-struck.new.self c.strike_seen-struck.ensures.same kept;
+      small = small_then laws c.self.inside.book c.self.inside.dealer c.self.inside.costs.items c.self.inside.hashes.items c.self.inside.log.items c.self.inside.arrived.items _ c.self.invariant events c.strike_seen-struck.new.self c.strike_seen-struck.ensures.same kept;
+    }
 
 pub invariant_of-self : goal.invariant_of-self
-invariant_of-self g c = (kept_quiet c.self.inside.desk.desk c.seen.new.desk.desk c.self.inside.ledger c.self.invariant c.seen.ensures.after.served c.seen.ensures.same.more (loads_decision c.self.inside.desk.desk c.seen.new.desk.desk c.args.request c.seen.result c.seen.ensures.answer))
+invariant_of-self g c =
+    strikes_batch (opened c.legal_histories_are_in_order.ensures) c.self.inside.book c.self.inside.dealer c.self.inside.costs.items c.self.inside.hashes.items c.self.inside.log.items c.self.inside.arrived.items _ c.self.invariant c.from.result c.strike_seen-struck.result c.strike_seen-struck.new.self c.strike_seen-struck.ensures.same (c.strike_seen-struck.ensures.answer (life_of (ledger_with c.self.inside.book c.self.inside.dealer c.self.inside.costs.items c.self.inside.hashes.items c.self.inside.log.items)) c.self.invariant.kept) c.append_newer.new.log.items c.append_newer.ensures.whole _ c.append_newer.ensures.capacity
 
-pub returns-then-ne-clause-same : goal.returns-then-ne-clause-same
-returns-then-ne-clause-same g c = record {
-  gate = search rules;
-  more = search rules;
-  kept = (kept_quiet c.self.inside.desk.desk c.seen.new.desk.desk c.self.inside.ledger c.self.invariant c.seen.ensures.after.served c.seen.ensures.same.more (loads_decision c.self.inside.desk.desk c.seen.new.desk.desk c.args.request c.seen.result c.seen.ensures.answer));
-}
-
-pub invariant_of-self-in_default : goal.invariant_of-self-in_default
-invariant_of-self-in_default g c = subst (λ (v : LedgerView). IsKept c.seen.new.desk.desk v) (sym c.in_default.ensures.none) (kept_quiet c.self.inside.desk.desk c.seen.new.desk.desk c.self.inside.ledger c.self.invariant c.seen.ensures.after.served c.seen.ensures.same.more (loads_decision c.self.inside.desk.desk c.seen.new.desk.desk c.args.request c.seen.result c.seen.ensures.answer))
-
-pub returns-in_default-clause-same : goal.returns-in_default-clause-same
-returns-in_default-clause-same g c = record {
-  gate = search rules;
-  more = search rules;
-  kept = subst (λ (v : LedgerView). IsKept c.seen.new.desk.desk v) (sym c.in_default.ensures.none) (kept_quiet c.self.inside.desk.desk c.seen.new.desk.desk c.self.inside.ledger c.self.invariant c.seen.ensures.after.served c.seen.ensures.same.more (loads_decision c.self.inside.desk.desk c.seen.new.desk.desk c.args.request c.seen.result c.seen.ensures.answer));
-}
+pub returns : goal.returns
+returns g c =
+    let laws = opened c.legal_histories_are_in_order.ensures in
+    let reads = c.strike_seen-struck.ensures.reads (life_of (ledger_with c.self.inside.book c.self.inside.dealer c.self.inside.costs.items c.self.inside.hashes.items c.self.inside.log.items)) c.self.invariant.kept in
+    record {
+      same = same_book (unsettled c.unsettled_logs_are_fair.ensures) c.args.self.now c.self.inside.book c.strike_seen-struck.new.self (ledger_with c.self.inside.book c.self.inside.dealer c.self.inside.costs.items c.self.inside.hashes.items c.self.inside.log.items) _ c.self.inside.arrived.items _ c.self.view_is c.strike_seen-struck.ensures.same (invariant_of-self g c);
+      answer = subst (λ (r : ℕ). StrikesOut c.args.self.now r c.strike_seen-struck.result (record { desk = c.strike_seen-struck.new.self.desk; ledger = ledger_with c.strike_seen-struck.new.self c.self.inside.dealer c.self.inside.costs.items c.self.inside.hashes.items c.append_newer.new.log.items })) c.from.ensures (strikes_answer laws c.self.inside.book c.self.inside.dealer c.self.inside.costs.items c.self.inside.hashes.items c.self.inside.log.items c.self.inside.arrived.items _ c.self.invariant c.from.result c.strike_seen-struck.result c.strike_seen-struck.new.self c.strike_seen-struck.ensures.same (c.strike_seen-struck.ensures.answer (life_of (ledger_with c.self.inside.book c.self.inside.dealer c.self.inside.costs.items c.self.inside.hashes.items c.self.inside.log.items)) c.self.invariant.kept) c.append_newer.new.log.items c.append_newer.ensures.whole c.args.self.now c.self.view_is reads);
+      after = subst (λ (r : ℕ). AfterStrike c.args.self.now r c.strike_seen-struck.result (record { desk = c.strike_seen-struck.new.self.desk; ledger = ledger_with c.strike_seen-struck.new.self c.self.inside.dealer c.self.inside.costs.items c.self.inside.hashes.items c.append_newer.new.log.items })) c.from.ensures (strikes_after laws c.self.inside.book c.self.inside.dealer c.self.inside.costs.items c.self.inside.hashes.items c.self.inside.log.items c.self.inside.arrived.items _ c.self.invariant c.from.result c.strike_seen-struck.result c.strike_seen-struck.new.self c.strike_seen-struck.ensures.same (c.strike_seen-struck.ensures.answer (life_of (ledger_with c.self.inside.book c.self.inside.dealer c.self.inside.costs.items c.self.inside.hashes.items c.self.inside.log.items)) c.self.invariant.kept) c.append_newer.new.log.items c.append_newer.ensures.whole c.args.self.now c.self.view_is reads);
+    }

@@ -31,6 +31,6 @@ settle-requires-clause-covered g c =
 
 pub returns-clause-settles : goal.returns-clause-settles
 returns-clause-settles g c _ =
-    let s : LifeState = record { queues = c.self.inside.queues; holders = c.self.inside.holders.items; hand = c.self.inside.hand; running = c.self.inside.running.items } in
+    let s : LifeState = record { queues = c.self.inside.queues; holders = c.self.inside.holders.items; hand = c.self.inside.hand; known = c.self.inside.known; running = c.self.inside.running.items } in
     let own = subst (λ (x : LifeState). charge_in x c.args.request ≡ Some c.in-Some.charge) (sym c.self.view_is) (kept g (goal.at.returns-clause-settles g c).In-Some) in
     rw (← c.self.view_is) (settles_one (stands c.settled_logs_stand.ensures) s c.args.request c.in-Some.charge own c.args.amount c.settle.new.self c.keep.new.running.items c.keep.ensures c.settle.ensures (search rules) c.requires.low)

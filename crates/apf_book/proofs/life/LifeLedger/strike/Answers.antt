@@ -25,10 +25,10 @@ returns-clause-some g c =
     let slot = subst (λ (x : LifeState). slot_of c.args.request < length x.holders) (sym c.self.view_is) c.requires.has_slot in
     let read = get_or_read s.holders.items (slot_of c.args.request) c.index.result.now slot c.index.ensures 0 in
     let holds : slice_index s.holders.items (slot_of c.args.request) ≡ c.args.request = omega (arith, c.if-index-request.false) in
-    rw (← c.self.view_is) (strike_some (opened c.legal_histories_are_in_order.ensures) c.remove.result (record { queues = s.queues; holders = s.holders.items; hand = s.hand; running = s.running.items }) c.remove.new.self c.args.request
+    rw (← c.self.view_is) (strike_some (opened c.legal_histories_are_in_order.ensures) c.remove.result (record { queues = s.queues; holders = s.holders.items; hand = s.hand; known = s.known; running = s.running.items }) c.remove.new.self c.args.request
     holds c.remove.ensures.stood c.remove.ensures.some)
 
 pub returns-clause-fewer : goal.returns-clause-fewer
 returns-clause-fewer g c =
     let s = c.self.inside in
-    rw (← c.self.view_is) (fewer_struck c.remove.result (record { queues = s.queues; holders = s.holders.items; hand = s.hand; running = s.running.items }) (record { queues = c.remove.new.self; holders = s.holders.items; hand = s.hand; running = s.running.items }) (slot_of c.args.request) c.remove.ensures.stood c.remove.ensures.some)
+    rw (← c.self.view_is) (fewer_struck c.remove.result (record { queues = s.queues; holders = s.holders.items; hand = s.hand; known = s.known; running = s.running.items }) (record { queues = c.remove.new.self; holders = s.holders.items; hand = s.hand; known = s.known; running = s.running.items }) (slot_of c.args.request) c.remove.ensures.stood c.remove.ensures.some)

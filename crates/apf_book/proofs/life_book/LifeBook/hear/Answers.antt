@@ -1,5 +1,7 @@
 -- A hearing changes no history.
-use Rattle.std.proofs.Common.{rules, sym, subst}
+use Rattle.std.proofs.Common.{rules, sym, ap, ◌∙◌, subst}
+use Rattle.apf_gate.specs.Records.{service}
+use Rattle.apf_gate.specs.Requests.{has_entered}
 use Rattle.apf_book.specs.LifeBook.{LifeBookView, IsLifeKept}
 use Rattle.apf_book.proofs.Saying.{hears_quiet}
 use Rattle.apf_book.proofs.LifeKeeping.{life_quiet}
@@ -21,4 +23,6 @@ returns-clause-answer g c = record {
   told = search rules;
   told_pass = search rules;
   left = search rules;
+  entered = c.hear.ensures.after.entered ∙ (c.hear.ensures.same.tied.entered ∙ ap (λ (b : LifeBookView). has_entered (service b.desk.desk c.args.pass.now.pass.number)) c.self.view_is);
+  not_handed = search rules;
 }

@@ -38,4 +38,5 @@ returns-clause-same g c =
       room = refl;
       hand = c.settle.ensures.slots.1;
       places = c.settle.ensures.places;
+      known = c.settle.ensures.slots.2;
     })

@@ -38,4 +38,5 @@ returns-clause-same g c =
       room = refl;
       hand = c.spend.ensures.slots.1;
       places = c.spend.ensures.places;
+      known = c.spend.ensures.slots.2;
     })

@@ -1,88 +1,18 @@
 -- Who is struck waited, and every history has its Strike.
-use Rattle.std.proofs.Common.{rules, ◌≡◌, ◌≢◌, ℕ, List, Some, None, inl, sym, ap, ◌∙◌, subst}
-use Rattle.apf_words.specs.declared.decision.Decision.TheVariants.{Cancelled}
-use Rattle.apf_history.specs.declared.events.Event.TheVariants.{Strike}
-use Rattle.apf_gate.specs.declared.record.Service.{Service}
-use Rattle.apf_gate.specs.Records.{service_of, told_of, KnowsMore}
-use Rattle.apf_queue.specs.View.{queue_count}
-use Rattle.apf_book.specs.Life.{then_came}
+use Rattle.std.proofs.Common.{◌≡◌, inl, sym, subst}
+use Rattle.apf_gate.specs.declared.record.Service.TheVariants.{Waiting}
+use Rattle.apf_gate.specs.Records.{service}
 use Rattle.apf_book.specs.LifeBook.{LifeBookView, IsLifeKept}
 use Rattle.apf_book.proofs.Opened.{opened}
-use Rattle.apf_book.proofs.Knowing.{more_then}
-use Rattle.apf_book.proofs.Saying.{loads_decision}
-use Rattle.apf_book.proofs.Agreeing.{agreed_cancelled}
-use Rattle.apf_book.proofs.LifeKeeping.{life_waits, life_quiet, life_statuses}
-use Rattle.apf_book.proofs.LifeTurning.{life_left}
-use Rattle.apf_book.proofs.life_book.LifeBook.strike.Given.{Over}
+use Rattle.apf_book.proofs.LifeKeeping.{life_waits}
 use Rattle.apf_book.proofs.life_book.LifeBook.strike.Goals as goal
 
-pub seen-requires-clause-has_slot : goal.seen-requires-clause-has_slot
-seen-requires-clause-has_slot g c =
+pub strike_seen-requires-clause-has_slot : goal.strike_seen-requires-clause-has_slot
+strike_seen-requires-clause-has_slot g c =
     let stands = c.if-not-waits.ensures c.self.invariant.view c.self.invariant.kept.of_life in
-    inl (life_waits (opened c.legal_histories_are_in_order.ensures) c.self.invariant.view _ c.self.invariant.kept stands.0 c.args.request.number stands.1)
-
-pub invariant_of-self : goal.invariant_of-self
-invariant_of-self g c = record {
-  view = c.self.invariant.view;
-  kept = life_quiet c.self.invariant.view (record { desk = c.self.inside.desk; queues = c.self.inside.ledger; notes = c.self.inside.notes }) c.seen.new.desk c.self.invariant.kept c.seen.ensures.after.served c.seen.ensures.same.more (loads_decision c.self.inside.desk.desk c.seen.new.desk.desk c.args.request.number c.seen.result c.seen.ensures.answer);
-}
-
-pub returns-then-ne-clause-answer : goal.returns-then-ne-clause-answer
-returns-then-ne-clause-answer g c v is = (
-  life_quiet v (record { desk = c.self.inside.desk; queues = c.self.inside.ledger; notes = c.self.inside.notes }) c.seen.new.desk (subst (λ (b : LifeBookView). IsLifeKept v b) (sym c.self.view_is) is) c.seen.ensures.after.served c.seen.ensures.same.more (loads_decision c.self.inside.desk.desk c.seen.new.desk.desk c.args.request.number c.seen.result c.seen.ensures.answer),
-  λ told q member.
-      let kept = (subst (λ (b : LifeBookView). IsLifeKept v b) (sym c.self.view_is) is) in
-      let before = subst (λ (b : LifeBookView). told_of b.desk.desk.knows.told c.args.request.number ≢ None) (sym c.self.view_is) told in
-      let cancelled = agreed_cancelled v.history (life_statuses (opened c.legal_histories_are_in_order.ensures) v _ kept) c.self.inside.desk.desk kept.agrees q c.args.request.number c.seen.result member c.seen.ensures.after.waits (λ none. before (sym (c.seen.ensures.after.stays before) ∙ none)) in
-      absurd (let bad = rw cancelled at c.if-ne.ensures in cc),
-)
+    inl (subst (λ (b : LifeBookView). service b.desk.desk c.args.request.number ≡ Waiting) c.self.view_is (life_waits (opened c.legal_histories_are_in_order.ensures) c.self.invariant.view _ c.self.invariant.kept stands.0 c.args.request.number stands.1))
 
 pub returns-then-not-waits-clause-answer : goal.returns-then-not-waits-clause-answer
 returns-then-not-waits-clause-answer g c v is =
     let kept = (subst (λ (b : LifeBookView). IsLifeKept v b) (sym c.self.view_is) is) in
     (is, λ told q member. c.if-not-waits.ensures v kept.of_life q member)
-
-pub unreachable-requires : goal.unreachable-requires
-unreachable-requires g c =
-    let stands = c.if-not-waits.ensures c.self.invariant.view c.self.invariant.kept.of_life in
-    c.in_default.ensures.nowhere c.self.invariant.view c.self.invariant.kept.of_life stands.0 stands.1
-
-pub leave-requires-clause-waits : goal.leave-requires-clause-waits
-leave-requires-clause-waits g c =
-    let stands = c.if-not-waits.ensures c.self.invariant.view c.self.invariant.kept.of_life in
-    ap (λ (services : List (ℕ × Service)). service_of services c.args.request.number) c.seen.ensures.after.served.0 ∙ life_waits (opened c.legal_histories_are_in_order.ensures) c.self.invariant.view _ c.self.invariant.kept stands.0 c.args.request.number stands.1
-
--- the Desk was told cancelled
-told_now : (g : Over) (c : goal.After-note g) → told_of c.seen.new.desk.desk.knows.told c.args.request.number ≡ Some Cancelled
-told_now g c = search rules
-
-pub invariant_of-self-2 : goal.invariant_of-self-2
-invariant_of-self-2 g c =
-    let told : told_of c.seen.new.desk.desk.knows.told c.args.request.number ≡ Some Cancelled = told_now g c in
-    record {
-      view = then_came c.self.invariant.view (Strike c.args.request.number c.in-Some.queue);
-      kept = life_left c.self.invariant.view (record { desk = c.self.inside.desk; queues = c.self.inside.ledger; notes = c.self.inside.notes }) c.seen.new.desk c.leave.new.desk c.strike.new.self c.note.new.self c.args.request.number c.in-Some.queue c.seen.result c.leave.ensures.answer.0 c.self.invariant.kept c.seen.ensures.after.served c.seen.ensures.same.more c.seen.ensures.answer
-          c.leave.ensures.after.services c.leave.ensures.after.held c.leave.ensures.same.more c.leave.ensures.answer.1 told c.in-Some.ensures.slots (c.in-Some.ensures.some c.self.invariant.view c.self.invariant.kept.of_life) (c.note.ensures.notes c.self.invariant.view.history c.self.invariant.kept.notes);
-    }
-
-pub returns-clause-same : goal.returns-clause-same
-returns-clause-same g c = record {
-  gate = search rules;
-  more = subst (λ (b : LifeBookView). KnowsMore b.desk.desk.knows c.leave.new.desk.desk.knows) c.self.view_is
-      (more_then c.self.inside.desk.desk.knows c.seen.new.desk.desk.knows c.leave.new.desk.desk.knows c.seen.ensures.same.more c.leave.ensures.same.more);
-  queues = (c.in-Some.ensures.some c.self.invariant.view c.self.invariant.kept.of_life).deck ∙ (sym c.self.invariant.kept.of_life.deck ∙ ap (λ (b : LifeBookView). queue_count b.queues.queues) c.self.view_is);
-  room = search rules;
-  hand = search rules;
-  places = search rules;
-}
-
-pub returns-clause-answer : goal.returns-clause-answer
-returns-clause-answer g c v is =
-    let kept = (subst (λ (b : LifeBookView). IsLifeKept v b) (sym c.self.view_is) is) in
-    let told : told_of c.seen.new.desk.desk.knows.told c.args.request.number ≡ Some Cancelled = told_now g c in
-    let came = c.in-Some.ensures.some v kept.of_life in (
-      c.in-Some.queue,
-      came.fair.0.0,
-      life_left v (record { desk = c.self.inside.desk; queues = c.self.inside.ledger; notes = c.self.inside.notes }) c.seen.new.desk c.leave.new.desk c.strike.new.self c.note.new.self c.args.request.number c.in-Some.queue c.seen.result c.leave.ensures.answer.0 kept c.seen.ensures.after.served c.seen.ensures.same.more c.seen.ensures.answer
-          c.leave.ensures.after.services c.leave.ensures.after.held c.leave.ensures.same.more c.leave.ensures.answer.1 told c.in-Some.ensures.slots (c.in-Some.ensures.some v kept.of_life) (c.note.ensures.notes v.history kept.notes),
-    )

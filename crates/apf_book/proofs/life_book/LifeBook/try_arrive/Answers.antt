@@ -37,15 +37,15 @@ invariant_of-self-in-Entered g c = record {
   view = _;
   kept = life_entered (opened c.legal_histories_are_in_order.ensures) c.self.invariant.view (record { desk = c.self.inside.desk; queues = c.self.inside.ledger; notes = c.self.inside.notes }) c.self.invariant.kept c.number-request.result (is_away (record { desk = c.self.inside.desk; queues = c.self.inside.ledger; notes = c.self.inside.notes }) c.args.pass.now c.number-request.result c.number-request.ensures.number (subst (λ (b : LifeBookView). IsNewTo b c.args.pass.now) (sym c.self.view_is) c.requires.is_new) c.hear-found.ensures.same.not_handed) c.hear-found.new.desk c.hear-found.ensures.after.served c.hear-found.ensures.same.more (hears_quiet c.args.pass.now.pass c.hear-found.new.pass.pass c.self.inside.desk.desk c.hear-found.new.desk.desk c.hear-found.result c.hear-found.ensures.answer) c.hear-found.new.pass.pass.number (c.hear-found.ensures.same.number ∙ sym c.number-request.ensures.number) (has_queues c.self.inside.desk.desk.knows.shape c.args.gate.now.shape (ap (λ (b : LifeBookView). b.desk.desk.knows.shape) c.self.view_is ∙ ap (λ (x : GateId). x.shape) c.requires.own.own) c.requires.has_queues)
       (record { desk = c.try_hand.new.desk; queues = c.enter.new.self; notes = c.note.new.self }) c.args.dealt.now c.shortest-queue.result c.args.cost c.enter.ensures.slots (c.enter.ensures.enters c.self.invariant.view c.args.dealt.now c.self.invariant.kept.of_life (comes (opened c.legal_histories_are_in_order.ensures) c.self.invariant.view (record { desk = c.self.inside.desk; queues = c.self.inside.ledger; notes = c.self.inside.notes }) c.self.invariant.kept c.number-request.result (is_away (record { desk = c.self.inside.desk; queues = c.self.inside.ledger; notes = c.self.inside.notes }) c.args.pass.now c.number-request.result c.number-request.ensures.number (subst (λ (b : LifeBookView). IsNewTo b c.args.pass.now) (sym c.self.view_is) c.requires.is_new) c.hear-found.ensures.same.not_handed) c.args.dealt.now c.shortest-queue.result (subst (λ (s : Shape). c.number-request.result < length s.widths) (sym (ap (λ (b : LifeBookView). b.desk.desk.knows.shape) c.self.view_is ∙ (ap (λ (x : GateId). x.shape) c.requires.own.own ∙ sym (ap (λ (x : GateId). x.shape) c.requires.own.own_pass)))) c.number-request.ensures.inside) c.shortest-queue.ensures.is_queue (c.shortest-queue.ensures.shortest c.self.invariant.view c.self.invariant.kept.of_life)))
-      (c.note.ensures.notes c.self.invariant.view.history c.self.invariant.kept.notes) c.in-Entered.ensures.moves c.in-Entered.ensures.says c.in-Entered.ensures.held (asked_now c.self.invariant.view c.self.inside.ledger c.enter.new.self c.args.pass.now.pass.knows.trace c.try_hand.new.desk.desk.knows.trace c.args.dealt.now c.args.cost c.args.pass.now.pass.number c.number-request.result c.self.invariant.kept.of_life.deck c.enter.ensures.slots.1 c.number-request.ensures.number (heard_then c.args.pass.now.pass.knows.trace c.hear-found.new.desk.desk.knows c.try_hand.new.desk.desk.knows (heard_trace (record { pass = c.args.pass.now.pass; desk = c.self.inside.desk.desk }) c.hear-found.result (record { pass = c.hear-found.new.pass.pass; desk = c.hear-found.new.desk.desk }) c.hear-found.ensures.answer) c.in-Entered.ensures.moves.more) (subst (λ (b : LifeBookView). IsAskedBy (sizes_of b.queues) c.args.pass.now.pass.knows.trace c.args.dealt.now c.args.cost c.args.pass.now.pass.number) (sym c.self.view_is) c.requires.asked));
+      (c.note.ensures.notes c.self.invariant.view.history c.self.invariant.kept.notes) c.in-Entered.ensures.moves c.in-Entered.ensures.says c.in-Entered.ensures.held (λ none. asked_now c.self.invariant.view c.self.inside.ledger c.enter.new.self c.args.pass.now.pass.knows.trace c.try_hand.new.desk.desk.knows.trace c.args.dealt.now c.args.cost c.args.pass.now.pass.number c.number-request.result c.self.invariant.kept.of_life.deck c.enter.ensures.slots.1 c.number-request.ensures.number (heard_then c.args.pass.now.pass.knows.trace c.hear-found.new.desk.desk.knows c.try_hand.new.desk.desk.knows (heard_trace (record { pass = c.args.pass.now.pass; desk = c.self.inside.desk.desk }) c.hear-found.result (record { pass = c.hear-found.new.pass.pass; desk = c.hear-found.new.desk.desk }) c.hear-found.ensures.answer) c.in-Entered.ensures.moves.more) (subst (λ (b : LifeBookView). b.queues.known ≡ false → IsAskedBy (sizes_of b.queues) c.args.pass.now.pass.knows.trace c.args.dealt.now c.args.cost c.args.pass.now.pass.number) (sym c.self.view_is) c.requires.asked (sym c.enter.ensures.slots.2 ∙ none)));
 }
 
 pub invariant_of-self-in-Full : goal.invariant_of-self-in-Full
 invariant_of-self-in-Full g c = record {
   view = _;
   kept = life_full (opened c.legal_histories_are_in_order.ensures) c.self.invariant.view (record { desk = c.self.inside.desk; queues = c.self.inside.ledger; notes = c.self.inside.notes }) c.self.invariant.kept c.number-request.result (is_away (record { desk = c.self.inside.desk; queues = c.self.inside.ledger; notes = c.self.inside.notes }) c.args.pass.now c.number-request.result c.number-request.ensures.number (subst (λ (b : LifeBookView). IsNewTo b c.args.pass.now) (sym c.self.view_is) c.requires.is_new) c.hear-found.ensures.same.not_handed) c.hear-found.new.desk c.hear-found.ensures.after.served c.hear-found.ensures.same.more (hears_quiet c.args.pass.now.pass c.hear-found.new.pass.pass c.self.inside.desk.desk c.hear-found.new.desk.desk c.hear-found.result c.hear-found.ensures.answer) c.hear-found.new.pass.pass.number (c.hear-found.ensures.same.number ∙ sym c.number-request.ensures.number) (has_queues c.self.inside.desk.desk.knows.shape c.args.gate.now.shape (ap (λ (b : LifeBookView). b.desk.desk.knows.shape) c.self.view_is ∙ ap (λ (x : GateId). x.shape) c.requires.own.own) c.requires.has_queues)
-      (record { desk = c.try_hand.new.desk; queues = c.self.inside.ledger; notes = c.note-in-Full.new.self }) c.args.dealt.now c.shortest-queue.result c.args.cost (refl, refl) (c.refuse.ensures c.self.invariant.view c.args.dealt.now c.args.cost c.self.invariant.kept.of_life (comes (opened c.legal_histories_are_in_order.ensures) c.self.invariant.view (record { desk = c.self.inside.desk; queues = c.self.inside.ledger; notes = c.self.inside.notes }) c.self.invariant.kept c.number-request.result (is_away (record { desk = c.self.inside.desk; queues = c.self.inside.ledger; notes = c.self.inside.notes }) c.args.pass.now c.number-request.result c.number-request.ensures.number (subst (λ (b : LifeBookView). IsNewTo b c.args.pass.now) (sym c.self.view_is) c.requires.is_new) c.hear-found.ensures.same.not_handed) c.args.dealt.now c.shortest-queue.result (subst (λ (s : Shape). c.number-request.result < length s.widths) (sym (ap (λ (b : LifeBookView). b.desk.desk.knows.shape) c.self.view_is ∙ (ap (λ (x : GateId). x.shape) c.requires.own.own ∙ sym (ap (λ (x : GateId). x.shape) c.requires.own.own_pass)))) c.number-request.ensures.inside) c.shortest-queue.ensures.is_queue (c.shortest-queue.ensures.shortest c.self.invariant.view c.self.invariant.kept.of_life)) c.requires.ask.low)
-      (c.note-in-Full.ensures.notes c.self.invariant.view.history c.self.invariant.kept.notes) c.in-Full.ensures.moves c.in-Full.ensures.says c.in-Full.ensures.held (asked_now c.self.invariant.view c.self.inside.ledger c.self.inside.ledger c.args.pass.now.pass.knows.trace c.try_hand.new.desk.desk.knows.trace c.args.dealt.now c.args.cost c.args.pass.now.pass.number c.number-request.result c.self.invariant.kept.of_life.deck refl c.number-request.ensures.number (heard_then c.args.pass.now.pass.knows.trace c.hear-found.new.desk.desk.knows c.try_hand.new.desk.desk.knows (heard_trace (record { pass = c.args.pass.now.pass; desk = c.self.inside.desk.desk }) c.hear-found.result (record { pass = c.hear-found.new.pass.pass; desk = c.hear-found.new.desk.desk }) c.hear-found.ensures.answer) c.in-Full.ensures.moves.more) (subst (λ (b : LifeBookView). IsAskedBy (sizes_of b.queues) c.args.pass.now.pass.knows.trace c.args.dealt.now c.args.cost c.args.pass.now.pass.number) (sym c.self.view_is) c.requires.asked));
+      (record { desk = c.try_hand.new.desk; queues = c.self.inside.ledger; notes = c.note-in-Full.new.self }) c.args.dealt.now c.shortest-queue.result c.args.cost (refl, refl, refl) (c.refuse.ensures c.self.invariant.view c.args.dealt.now c.args.cost c.self.invariant.kept.of_life (comes (opened c.legal_histories_are_in_order.ensures) c.self.invariant.view (record { desk = c.self.inside.desk; queues = c.self.inside.ledger; notes = c.self.inside.notes }) c.self.invariant.kept c.number-request.result (is_away (record { desk = c.self.inside.desk; queues = c.self.inside.ledger; notes = c.self.inside.notes }) c.args.pass.now c.number-request.result c.number-request.ensures.number (subst (λ (b : LifeBookView). IsNewTo b c.args.pass.now) (sym c.self.view_is) c.requires.is_new) c.hear-found.ensures.same.not_handed) c.args.dealt.now c.shortest-queue.result (subst (λ (s : Shape). c.number-request.result < length s.widths) (sym (ap (λ (b : LifeBookView). b.desk.desk.knows.shape) c.self.view_is ∙ (ap (λ (x : GateId). x.shape) c.requires.own.own ∙ sym (ap (λ (x : GateId). x.shape) c.requires.own.own_pass)))) c.number-request.ensures.inside) c.shortest-queue.ensures.is_queue (c.shortest-queue.ensures.shortest c.self.invariant.view c.self.invariant.kept.of_life)) c.requires.ask.low)
+      (c.note-in-Full.ensures.notes c.self.invariant.view.history c.self.invariant.kept.notes) c.in-Full.ensures.moves c.in-Full.ensures.says c.in-Full.ensures.held (λ none. asked_now c.self.invariant.view c.self.inside.ledger c.self.inside.ledger c.args.pass.now.pass.knows.trace c.try_hand.new.desk.desk.knows.trace c.args.dealt.now c.args.cost c.args.pass.now.pass.number c.number-request.result c.self.invariant.kept.of_life.deck refl c.number-request.ensures.number (heard_then c.args.pass.now.pass.knows.trace c.hear-found.new.desk.desk.knows c.try_hand.new.desk.desk.knows (heard_trace (record { pass = c.args.pass.now.pass; desk = c.self.inside.desk.desk }) c.hear-found.result (record { pass = c.hear-found.new.pass.pass; desk = c.hear-found.new.desk.desk }) c.hear-found.ensures.answer) c.in-Full.ensures.moves.more) (subst (λ (b : LifeBookView). b.queues.known ≡ false → IsAskedBy (sizes_of b.queues) c.args.pass.now.pass.knows.trace c.args.dealt.now c.args.cost c.args.pass.now.pass.number) (sym c.self.view_is) c.requires.asked none));
 }
 
 pub invariant_of-self-in-Closed : goal.invariant_of-self-in-Closed
@@ -74,7 +74,7 @@ returns-in-Entered-clause-answer g c = record {
   history = λ v is. let kept = (subst (λ (b : LifeBookView). IsLifeKept v b) (sym c.self.view_is) is) in
       subst (λ (i : ℕ). IsLifeKept (arrived_in v i c.args.dealt.now c.args.cost (arrived.Queued c.shortest-queue.result)) (record { desk = c.try_hand.new.desk; queues = c.enter.new.self; notes = c.note.new.self })) c.number-request.ensures.number (life_entered (opened c.legal_histories_are_in_order.ensures) v (record { desk = c.self.inside.desk; queues = c.self.inside.ledger; notes = c.self.inside.notes }) kept c.number-request.result (is_away (record { desk = c.self.inside.desk; queues = c.self.inside.ledger; notes = c.self.inside.notes }) c.args.pass.now c.number-request.result c.number-request.ensures.number (subst (λ (b : LifeBookView). IsNewTo b c.args.pass.now) (sym c.self.view_is) c.requires.is_new) c.hear-found.ensures.same.not_handed) c.hear-found.new.desk c.hear-found.ensures.after.served c.hear-found.ensures.same.more (hears_quiet c.args.pass.now.pass c.hear-found.new.pass.pass c.self.inside.desk.desk c.hear-found.new.desk.desk c.hear-found.result c.hear-found.ensures.answer) c.hear-found.new.pass.pass.number (c.hear-found.ensures.same.number ∙ sym c.number-request.ensures.number) (has_queues c.self.inside.desk.desk.knows.shape c.args.gate.now.shape (ap (λ (b : LifeBookView). b.desk.desk.knows.shape) c.self.view_is ∙ ap (λ (x : GateId). x.shape) c.requires.own.own) c.requires.has_queues)
       (record { desk = c.try_hand.new.desk; queues = c.enter.new.self; notes = c.note.new.self }) c.args.dealt.now c.shortest-queue.result c.args.cost c.enter.ensures.slots (c.enter.ensures.enters v c.args.dealt.now kept.of_life (comes (opened c.legal_histories_are_in_order.ensures) v (record { desk = c.self.inside.desk; queues = c.self.inside.ledger; notes = c.self.inside.notes }) kept c.number-request.result (is_away (record { desk = c.self.inside.desk; queues = c.self.inside.ledger; notes = c.self.inside.notes }) c.args.pass.now c.number-request.result c.number-request.ensures.number (subst (λ (b : LifeBookView). IsNewTo b c.args.pass.now) (sym c.self.view_is) c.requires.is_new) c.hear-found.ensures.same.not_handed) c.args.dealt.now c.shortest-queue.result (subst (λ (s : Shape). c.number-request.result < length s.widths) (sym (ap (λ (b : LifeBookView). b.desk.desk.knows.shape) c.self.view_is ∙ (ap (λ (x : GateId). x.shape) c.requires.own.own ∙ sym (ap (λ (x : GateId). x.shape) c.requires.own.own_pass)))) c.number-request.ensures.inside) c.shortest-queue.ensures.is_queue (c.shortest-queue.ensures.shortest v kept.of_life)))
-      (c.note.ensures.notes v.history kept.notes) c.in-Entered.ensures.moves c.in-Entered.ensures.says c.in-Entered.ensures.held (asked_now v c.self.inside.ledger c.enter.new.self c.args.pass.now.pass.knows.trace c.try_hand.new.desk.desk.knows.trace c.args.dealt.now c.args.cost c.args.pass.now.pass.number c.number-request.result kept.of_life.deck c.enter.ensures.slots.1 c.number-request.ensures.number (heard_then c.args.pass.now.pass.knows.trace c.hear-found.new.desk.desk.knows c.try_hand.new.desk.desk.knows (heard_trace (record { pass = c.args.pass.now.pass; desk = c.self.inside.desk.desk }) c.hear-found.result (record { pass = c.hear-found.new.pass.pass; desk = c.hear-found.new.desk.desk }) c.hear-found.ensures.answer) c.in-Entered.ensures.moves.more) (subst (λ (b : LifeBookView). IsAskedBy (sizes_of b.queues) c.args.pass.now.pass.knows.trace c.args.dealt.now c.args.cost c.args.pass.now.pass.number) (sym c.self.view_is) c.requires.asked)));
+      (c.note.ensures.notes v.history kept.notes) c.in-Entered.ensures.moves c.in-Entered.ensures.says c.in-Entered.ensures.held (λ none. asked_now v c.self.inside.ledger c.enter.new.self c.args.pass.now.pass.knows.trace c.try_hand.new.desk.desk.knows.trace c.args.dealt.now c.args.cost c.args.pass.now.pass.number c.number-request.result kept.of_life.deck c.enter.ensures.slots.1 c.number-request.ensures.number (heard_then c.args.pass.now.pass.knows.trace c.hear-found.new.desk.desk.knows c.try_hand.new.desk.desk.knows (heard_trace (record { pass = c.args.pass.now.pass; desk = c.self.inside.desk.desk }) c.hear-found.result (record { pass = c.hear-found.new.pass.pass; desk = c.hear-found.new.desk.desk }) c.hear-found.ensures.answer) c.in-Entered.ensures.moves.more) (subst (λ (b : LifeBookView). b.queues.known ≡ false → IsAskedBy (sizes_of b.queues) c.args.pass.now.pass.knows.trace c.args.dealt.now c.args.cost c.args.pass.now.pass.number) (sym c.self.view_is) c.requires.asked (sym c.enter.ensures.slots.2 ∙ none))));
   is_new = λ v is. subst (λ (i : ℕ). has_arrived v.history i ≡ false) c.number-request.ensures.number (is_new (opened c.legal_histories_are_in_order.ensures) v (record { desk = c.self.inside.desk; queues = c.self.inside.ledger; notes = c.self.inside.notes }) (subst (λ (b : LifeBookView). IsLifeKept v b) (sym c.self.view_is) is) c.number-request.result (is_away (record { desk = c.self.inside.desk; queues = c.self.inside.ledger; notes = c.self.inside.notes }) c.args.pass.now c.number-request.result c.number-request.ensures.number (subst (λ (b : LifeBookView). IsNewTo b c.args.pass.now) (sym c.self.view_is) c.requires.is_new) c.hear-found.ensures.same.not_handed));
   told = search rules;
   first = λ e. cc;
@@ -84,8 +84,8 @@ pub returns-in-Full-clause-answer : goal.returns-in-Full-clause-answer
 returns-in-Full-clause-answer g c = record {
   history = λ v is. let kept = (subst (λ (b : LifeBookView). IsLifeKept v b) (sym c.self.view_is) is) in
       subst (λ (i : ℕ). IsLifeKept (arrived_in v i c.args.dealt.now c.args.cost (arrived.Full c.shortest-queue.result)) (record { desk = c.try_hand.new.desk; queues = c.self.inside.ledger; notes = c.note-in-Full.new.self })) c.number-request.ensures.number (life_full (opened c.legal_histories_are_in_order.ensures) v (record { desk = c.self.inside.desk; queues = c.self.inside.ledger; notes = c.self.inside.notes }) kept c.number-request.result (is_away (record { desk = c.self.inside.desk; queues = c.self.inside.ledger; notes = c.self.inside.notes }) c.args.pass.now c.number-request.result c.number-request.ensures.number (subst (λ (b : LifeBookView). IsNewTo b c.args.pass.now) (sym c.self.view_is) c.requires.is_new) c.hear-found.ensures.same.not_handed) c.hear-found.new.desk c.hear-found.ensures.after.served c.hear-found.ensures.same.more (hears_quiet c.args.pass.now.pass c.hear-found.new.pass.pass c.self.inside.desk.desk c.hear-found.new.desk.desk c.hear-found.result c.hear-found.ensures.answer) c.hear-found.new.pass.pass.number (c.hear-found.ensures.same.number ∙ sym c.number-request.ensures.number) (has_queues c.self.inside.desk.desk.knows.shape c.args.gate.now.shape (ap (λ (b : LifeBookView). b.desk.desk.knows.shape) c.self.view_is ∙ ap (λ (x : GateId). x.shape) c.requires.own.own) c.requires.has_queues)
-      (record { desk = c.try_hand.new.desk; queues = c.self.inside.ledger; notes = c.note-in-Full.new.self }) c.args.dealt.now c.shortest-queue.result c.args.cost (refl, refl) (c.refuse.ensures v c.args.dealt.now c.args.cost kept.of_life (comes (opened c.legal_histories_are_in_order.ensures) v (record { desk = c.self.inside.desk; queues = c.self.inside.ledger; notes = c.self.inside.notes }) kept c.number-request.result (is_away (record { desk = c.self.inside.desk; queues = c.self.inside.ledger; notes = c.self.inside.notes }) c.args.pass.now c.number-request.result c.number-request.ensures.number (subst (λ (b : LifeBookView). IsNewTo b c.args.pass.now) (sym c.self.view_is) c.requires.is_new) c.hear-found.ensures.same.not_handed) c.args.dealt.now c.shortest-queue.result (subst (λ (s : Shape). c.number-request.result < length s.widths) (sym (ap (λ (b : LifeBookView). b.desk.desk.knows.shape) c.self.view_is ∙ (ap (λ (x : GateId). x.shape) c.requires.own.own ∙ sym (ap (λ (x : GateId). x.shape) c.requires.own.own_pass)))) c.number-request.ensures.inside) c.shortest-queue.ensures.is_queue (c.shortest-queue.ensures.shortest v kept.of_life)) c.requires.ask.low)
-      (c.note-in-Full.ensures.notes v.history kept.notes) c.in-Full.ensures.moves c.in-Full.ensures.says c.in-Full.ensures.held (asked_now v c.self.inside.ledger c.self.inside.ledger c.args.pass.now.pass.knows.trace c.try_hand.new.desk.desk.knows.trace c.args.dealt.now c.args.cost c.args.pass.now.pass.number c.number-request.result kept.of_life.deck refl c.number-request.ensures.number (heard_then c.args.pass.now.pass.knows.trace c.hear-found.new.desk.desk.knows c.try_hand.new.desk.desk.knows (heard_trace (record { pass = c.args.pass.now.pass; desk = c.self.inside.desk.desk }) c.hear-found.result (record { pass = c.hear-found.new.pass.pass; desk = c.hear-found.new.desk.desk }) c.hear-found.ensures.answer) c.in-Full.ensures.moves.more) (subst (λ (b : LifeBookView). IsAskedBy (sizes_of b.queues) c.args.pass.now.pass.knows.trace c.args.dealt.now c.args.cost c.args.pass.now.pass.number) (sym c.self.view_is) c.requires.asked)));
+      (record { desk = c.try_hand.new.desk; queues = c.self.inside.ledger; notes = c.note-in-Full.new.self }) c.args.dealt.now c.shortest-queue.result c.args.cost (refl, refl, refl) (c.refuse.ensures v c.args.dealt.now c.args.cost kept.of_life (comes (opened c.legal_histories_are_in_order.ensures) v (record { desk = c.self.inside.desk; queues = c.self.inside.ledger; notes = c.self.inside.notes }) kept c.number-request.result (is_away (record { desk = c.self.inside.desk; queues = c.self.inside.ledger; notes = c.self.inside.notes }) c.args.pass.now c.number-request.result c.number-request.ensures.number (subst (λ (b : LifeBookView). IsNewTo b c.args.pass.now) (sym c.self.view_is) c.requires.is_new) c.hear-found.ensures.same.not_handed) c.args.dealt.now c.shortest-queue.result (subst (λ (s : Shape). c.number-request.result < length s.widths) (sym (ap (λ (b : LifeBookView). b.desk.desk.knows.shape) c.self.view_is ∙ (ap (λ (x : GateId). x.shape) c.requires.own.own ∙ sym (ap (λ (x : GateId). x.shape) c.requires.own.own_pass)))) c.number-request.ensures.inside) c.shortest-queue.ensures.is_queue (c.shortest-queue.ensures.shortest v kept.of_life)) c.requires.ask.low)
+      (c.note-in-Full.ensures.notes v.history kept.notes) c.in-Full.ensures.moves c.in-Full.ensures.says c.in-Full.ensures.held (λ none. asked_now v c.self.inside.ledger c.self.inside.ledger c.args.pass.now.pass.knows.trace c.try_hand.new.desk.desk.knows.trace c.args.dealt.now c.args.cost c.args.pass.now.pass.number c.number-request.result kept.of_life.deck refl c.number-request.ensures.number (heard_then c.args.pass.now.pass.knows.trace c.hear-found.new.desk.desk.knows c.try_hand.new.desk.desk.knows (heard_trace (record { pass = c.args.pass.now.pass; desk = c.self.inside.desk.desk }) c.hear-found.result (record { pass = c.hear-found.new.pass.pass; desk = c.hear-found.new.desk.desk }) c.hear-found.ensures.answer) c.in-Full.ensures.moves.more) (subst (λ (b : LifeBookView). b.queues.known ≡ false → IsAskedBy (sizes_of b.queues) c.args.pass.now.pass.knows.trace c.args.dealt.now c.args.cost c.args.pass.now.pass.number) (sym c.self.view_is) c.requires.asked none)));
   is_new = λ v is. subst (λ (i : ℕ). has_arrived v.history i ≡ false) c.number-request.ensures.number (is_new (opened c.legal_histories_are_in_order.ensures) v (record { desk = c.self.inside.desk; queues = c.self.inside.ledger; notes = c.self.inside.notes }) (subst (λ (b : LifeBookView). IsLifeKept v b) (sym c.self.view_is) is) c.number-request.result (is_away (record { desk = c.self.inside.desk; queues = c.self.inside.ledger; notes = c.self.inside.notes }) c.args.pass.now c.number-request.result c.number-request.ensures.number (subst (λ (b : LifeBookView). IsNewTo b c.args.pass.now) (sym c.self.view_is) c.requires.is_new) c.hear-found.ensures.same.not_handed));
   told = subst (λ (b : LifeBookView). BothTold QueueFull c.try_hand.new.pass.pass b.desk.desk.knows c.try_hand.new.desk.desk.knows) c.self.view_is
       (told_then c.self.inside.desk.desk.knows c.hear-found.new.desk.desk.knows c.try_hand.new.desk.desk.knows c.try_hand.new.pass.pass.number QueueFull c.hear-found.ensures.same.more c.in-Full.ensures.told.0, c.in-Full.ensures.told.1);
@@ -119,6 +119,7 @@ returns-in-Entered-clause-same g c = record {
   room = search rules;
   hand = search rules;
   places = search rules;
+  known = search rules;
 }
 
 pub returns-in-Full-clause-same : goal.returns-in-Full-clause-same
@@ -130,6 +131,7 @@ returns-in-Full-clause-same g c = record {
   room = search rules;
   hand = search rules;
   places = search rules;
+  known = search rules;
 }
 
 pub returns-in-Closed-clause-same : goal.returns-in-Closed-clause-same
@@ -141,6 +143,7 @@ returns-in-Closed-clause-same g c = record {
   room = search rules;
   hand = search rules;
   places = search rules;
+  known = search rules;
 }
 
 pub returns-in-Cancelled-clause-same : goal.returns-in-Cancelled-clause-same
@@ -152,6 +155,7 @@ returns-in-Cancelled-clause-same g c = record {
   room = search rules;
   hand = search rules;
   places = search rules;
+  known = search rules;
 }
 
 pub returns-in-Entered-clause-after : goal.returns-in-Entered-clause-after
@@ -224,4 +228,5 @@ returns-in-Raced-clause-same g c = record {
   room = search rules;
   hand = search rules;
   places = search rules;
+  known = search rules;
 }

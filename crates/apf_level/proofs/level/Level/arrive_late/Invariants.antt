@@ -1,6 +1,7 @@
 -- The request is the same and did not enter. Whoever is not decided is fresh.
 use Rattle.std.proofs.Common.{◌≡◌, false}
-use Rattle.apf_level.specs.Attempts.{IsAttemptedTold, IsKeptInBatch, StaysOut}
+use Rattle.apf_level.specs.InPlace.{IsKeptInBatch}
+use Rattle.apf_line.specs.Attempts.{IsAttemptedTold, StaysOut}
 use Rattle.apf_line.specs.Tokens.{IsOf}
 use Rattle.apf_level.proofs.level.Level.arrive_late.Given as goal
 

@@ -25,6 +25,7 @@ invariant_of-queued g c =
         limit = kept.of_life.limit ∙ sym c.requires.opening.queue_limit;
         hand = made.hand ∙ sym (ap (λ (s : Sizes). s.hand) c.requires.opening.sizes);
         settles = ap (λ (n : ℕ). not (n == 0)) made.places ∙ ap (λ (n : ℕ). not (places_of c.args.settling n == 0)) c.requires.slots ∙ sym c.requires.opening.settles;
+        known = made.known_is;
       };
       stopped = (opened c.every_level_has_histories.ensures).begins v c.in_ok-book.book refl kept;
       room = made.room ∙ ap (λ (n : ℕ). 2 * n) c.requires.slots;

@@ -16,7 +16,7 @@ pub end_level-requires-clause-own_desk : goal.end_level-requires-clause-own_desk
 end_level-requires-clause-own_desk c =
     let book : LifeBookView = c.self.inside.book in
     let k : LifeId = record { gate = c.self.inside.gate; sizes = record { deck = queue_count book.queues.queues; hand = book.queues.hand }; queue_limit = book.queues.queues.length_limit; settles = settles_in book.queues } in
-    let own : IsBookOf k book = record { gate = c.self.invariant.desk; queues = refl; limit = refl; hand = refl; settles = refl } in
+    let own : IsBookOf k book = record { gate = c.self.invariant.desk; queues = refl; limit = refl; hand = refl; settles = refl; known = c.self.invariant.known } in
     let lived = c.in_ok-closing.ensures.lived in
     let slots : c.self.inside.gate.shape.slots ≡ c.args.slots = (search rules) in
     (c.in_ok-closing.ensures.closes k lived.view own slots lived.kept).gate
@@ -27,7 +27,7 @@ returns c = of_each _ _ (λ r ends k v same queues kept.
     let here : IsLifeKept v c.self.inside.book = subst (λ (o : OwnerView). IsLifeKept v o.book) (sym c.self.view_is) kept in
     let has : HasQueuesOf k c.self.inside.book = subst (λ (o : OwnerView). HasQueuesOf k o.book) (sym c.self.view_is) queues in
     let gate : k.gate ≡ c.self.inside.gate = same ∙ ap (λ (o : OwnerView). o.gate) (sym c.self.view_is) in
-    let own : IsBookOf k c.self.inside.book = record { gate = c.self.invariant.desk ∙ sym gate; queues = has.queues; limit = has.limit; hand = has.hand; settles = has.settles } in
+    let own : IsBookOf k c.self.inside.book = record { gate = c.self.invariant.desk ∙ sym gate; queues = has.queues; limit = has.limit; hand = has.hand; settles = has.settles; known = c.self.invariant.known } in
     let closes = c.in_ok-closing.ensures.closes k v own slots here in
     let here_desk : c.in_ok-closing.closing.desk.desk ≡ c.self.inside.book.desk.desk = ap (λ (d : DeskToken). d.desk) c.in_ok-closing.ensures.desk in
     subst (λ (o : OwnerView). EndedBy o.book.desk.desk k v o.passes o.stations r) c.self.view_is (subst (λ (d : DeskRecord). EndedBy d k v c.self.inside.passes.items c.self.inside.stations.items r) here_desk (ends k v (sym gate) closes))) c.end_level.result c.end_level.ensures.by_desk

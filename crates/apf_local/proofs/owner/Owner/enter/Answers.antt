@@ -37,7 +37,7 @@ try_arrive-requires-clause-is_new c =
     subst (λ (t : PassToken). IsNewTo c.self.inside.book t) (sym e1) (record { in_line = c.ask.ensures.after.in_line blocked.fresh; away = inl (c.ask.ensures.after.not_handed blocked.fresh).0 })
 
 pub try_arrive-requires-clause-asked : goal.try_arrive-requires-clause-asked
-try_arrive-requires-clause-asked c =
+try_arrive-requires-clause-asked c = λ none.
     let o : OwnerView = record { gate = c.self.inside.gate; response = c.self.inside.response; book = c.self.inside.book; passes = c.self.inside.passes.items; stations = c.self.inside.stations.items } in
     let blocked = c.requires.blocked c.index_mut.result.now (was o c.args.self.now c.args.slot c.index_mut.result.now c.self.view_is c.requires.is_slot c.index_mut.ensures.value) in
     let p : PassToken = c.index_mut.result.now in

@@ -1,5 +1,5 @@
 -- The seats went back by one step, once the Pass had heard that they stand.
-use Rattle.std.proofs.Common.{rules, ◌≡◌, ℕ, inl, inr, List, [], length, refl, sym, ap, ◌∙◌, subst}
+use Rattle.std.proofs.Common.{rules, ◌≡◌, inl, inr, List, length, refl, sym, ap, ◌∙◌, subst}
 use Rattle.std.proofs.lemmas.List.{length-set}
 use Rattle.std.specs.Prelude.{◌==◌, not, Option, Some}
 use Rattle.apf_words.specs.Level.{Level}
@@ -12,7 +12,6 @@ use Rattle.apf_gate.specs.Tokens.{GateId, PassToken, pass_gate}
 use Rattle.apf_book.specs.BookResults.{SameRequest}
 use Rattle.apf_book.specs.LifeBook.{LifeBookView, IsLifeKept}
 use Rattle.apf_book.specs.LifeCalls.{HearsLife}
-use Rattle.apf_line.specs.Seats.{HeldSeats}
 use Rattle.apf_line.specs.Tokens.{IsRunning}
 use Rattle.apf_local.specs.Owners.{OwnerView, GivesBack}
 use Rattle.apf_local.proofs.Knowing.{book_then}

@@ -32,6 +32,7 @@ invariant_of-owner c =
       desk = ap desk_gate made.desk ∙ ap desk_gate c.in_ok-gate.ensures.desk;
       response_is = sym (ap (λ s. s.response) c.in_ok-gate.ensures.shape);
       room = made.room ∙ ap (λ (n : ℕ). 2 * n) (sym slots);
+      known = made.known_is;
       passes_own = λ k t at. (c.in_ok-gate.ensures.fresh k t at).0;
       stations_own = c.in_ok-gate.ensures.own;
       all_passes = (search rules);

@@ -1,7 +1,7 @@
 -- The request is the same and did not enter. Whoever is not decided is fresh.
 use Rattle.std.proofs.Common.{◌≡◌, false}
 use Rattle.apf_gate.specs.Records.{KnowsMore}
-use Rattle.apf_level.specs.Attempts.{IsKeptBy, IsAttemptedTold, StaysOut, FoundIfBlocked}
+use Rattle.apf_line.specs.Attempts.{IsKeptBy, IsAttemptedTold, StaysOut, FoundIfBlocked}
 use Rattle.apf_line.specs.Tokens.{IsOf}
 use Rattle.apf_level.proofs.life.level.Level.arrive_late.Given as goal
 

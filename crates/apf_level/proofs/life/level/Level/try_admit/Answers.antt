@@ -1,7 +1,7 @@
 use Rattle.std.proofs.Common.{rules, subst}
-use Rattle.apf_level.specs.declared.answers.Tried.{Tried}
+use Rattle.apf_line.specs.declared.attempts.Tried.{Tried}
 use Rattle.apf_level.specs.declared.life.answers.TryAdmit.TheVariants as tried
-use Rattle.apf_level.specs.Attempts.{Attempts}
+use Rattle.apf_line.specs.Attempts.{Attempts}
 use Rattle.apf_line.specs.Tokens.{Arriving}
 use Rattle.apf_level.specs.LifeAdmission.{TriesToAdmit}
 use Rattle.apf_level.proofs.LifeAsks.{asked_more}

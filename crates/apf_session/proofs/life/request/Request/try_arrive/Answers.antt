@@ -1,7 +1,7 @@
 use Rattle.std.proofs.Common.{rules, ◌≡◌, refl, sym, ap, ◌∙◌, subst}
-use Rattle.apf_level.specs.declared.answers.Tried.{Tried}
-use Rattle.apf_level.specs.declared.answers.Tried.TheVariants as tries
-use Rattle.apf_level.specs.Attempts.{Attempts}
+use Rattle.apf_line.specs.declared.attempts.Tried.{Tried}
+use Rattle.apf_line.specs.declared.attempts.Tried.TheVariants as tries
+use Rattle.apf_line.specs.Attempts.{Attempts}
 use Rattle.apf_session.specs.declared.life.answer.Answer.TheVariants as answers
 use Rattle.apf_session.specs.declared.life.answer.Place.{Place}
 use Rattle.apf_session.specs.declared.life.answer.Place.TheVariants as places

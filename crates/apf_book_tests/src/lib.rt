@@ -19,6 +19,8 @@
 //! - `memory`: each allocation refused in turn.
 //! - `faults`: what the faults print.
 //!
+//! - `life`: a book for life, over a gate whose slots are used again, in one thread.
+//!
 //! In threads beside one another, in rounds until each order came:
 //!
 //! - `serving`: requests are run through a book under a lock, while some are cancelled.
@@ -35,6 +37,8 @@ mod grants;
 mod judging;
 #[cfg(test)]
 mod level;
+#[cfg(test)]
+mod life;
 #[cfg(test)]
 mod marks;
 #[cfg(test)]

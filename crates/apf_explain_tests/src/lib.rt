@@ -1,5 +1,7 @@
-//! The tests of `apf_explain`, by its public calls alone, of what no run of the program shows. The lines of all faults are tested
-//! by `tests/explain.py`, and those of traces and audit logs by `tests/simulate.py` and `tests/audit.py`.
+//! The tests of `apf_explain`, and of `apf_files`, whose faults it explains, by their public calls alone, of what no run of the
+//! program shows. The lines of all faults are tested by `tests/explain.py`, and those of traces and audit logs by
+//! `tests/simulate.py` and `tests/audit.py`. What each reader of a file answers, and each fault with its number and text, is tested
+//! by `tests/files.py`, and the settings of a level by `tests/serve.py`.
 //!
 //! They stand in a crate of their own, as a crate with tests is proved twice.
 //!
@@ -7,6 +9,7 @@
 //! - `audits`: faults of an audit log whose line is not at hand.
 //! - `traces`: the line of one that comes too late, and of a line that was read in pieces.
 //! - `ends`: a writer without room, a call without memory, and faults that are not those of the bytes.
+//! - `requests`, `script`: every key of a request, and every form of a command.
 #![tactic(auto)]
 
 #[cfg(test)]
@@ -15,5 +18,9 @@ mod audits;
 mod dealers;
 #[cfg(test)]
 mod ends;
+#[cfg(test)]
+mod requests;
+#[cfg(test)]
+mod script;
 #[cfg(test)]
 mod traces;

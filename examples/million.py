@@ -8,26 +8,30 @@ usage: million.py [REQUESTS]
 
 import random
 import sys
-from heapq import heappop, heappush
+from bisect import bisect_right
+from operator import itemgetter
 
 
-
-def lines(count):
-    """The lines of so many requests, in the order in which they end."""
+def pieces(count):
+    """The lines of so many requests, in the order in which they end: some thousands of them together, since many short pieces take long to print."""
     draw = random.Random(1040).random
     users = [f"system:serviceaccount:kube-system:controller-{number}" for number in range(40)] + [f"user-{number}" for number in range(120)]
-    now, ending = 0, []
-    for number in range(count):
+    # how the lines of each user begin, up to their times
+    *begins, crawls = [f'{{"schema":"workload-low","distinguisher":"{user}","arrivesAt":' for user in [*users, "crawler"]]
+    now, ending, end_of = 0, [], itemgetter(0)
+    put = ending.append
+    for number in range(1, count + 1):
         now += int(14_400 * draw())
         if 600_000_000 <= now % 3_600_000_000 < 1_200_000_000 and draw() < 0.6:
-            user, runs, width = "crawler", int(10_000_000 * draw()), 10
+            begin, runs, width = crawls, int(10_000_000 * draw()), 10
         else:
-            user, runs, width = users[int(160 * draw())], int(2_000_000 * draw() ** 8), 1 + int(1.25 * draw())
-        heappush(ending, (now + runs, f'{{"schema":"workload-low","distinguisher":"{user}","arrivesAt":{now},"runsFor":{runs},"width":{width}}}\n'))
-        while ending and ending[0][0] <= now:
-            yield heappop(ending)[1]
-    for _, line in sorted(ending):
-        yield line
+            begin, runs, width = begins[int(160 * draw())], int(2_000_000 * draw() ** 8), 1 + int(1.25 * draw())
+        put((now + runs, f'{begin}{now},"runsFor":{runs},"width":{width}}}\n'))
+        if number % 5000 == 0 or number == count:
+            ending.sort(key=end_of)
+            over = bisect_right([end for end, _ in ending], now) if number < count else len(ending)
+            yield "".join([line for _, line in ending[:over]])
+            del ending[:over]
 
 
-sys.stdout.writelines(lines(int(sys.argv[1]) if len(sys.argv) > 1 else 1_000_000))
+sys.stdout.writelines(pieces(int(sys.argv[1]) if len(sys.argv) > 1 else 1_000_000))

@@ -9,7 +9,9 @@ with the program and prints its own column beside the published one, for the row
 usage: noisy-flows.py [PROGRAM]    (./apf of this repository, unless another is named)
 """
 
+import functools
 import json
+import operator
 import os
 import random
 import subprocess
@@ -32,7 +34,7 @@ SAMPLES = 20_000
 
 
 def hands_of(program, hand, deck):
-    """The hands of all flows, by one call of the program: a trace has a request of each."""
+    """The hands of all flows, by one call of the program: a trace has a request of each. Of a hand each queue is a bit."""
     config = json.dumps({"limit": 1, "queues": deck, "handSize": hand})
     with tempfile.NamedTemporaryFile("w", suffix=".jsonl") as trace:
         for flow in range(FLOWS):
@@ -40,7 +42,7 @@ def hands_of(program, hand, deck):
         trace.flush()
         lines = subprocess.run([program, "hands", "-", trace.name], input=config, stdout=subprocess.PIPE, check=True, text=True).stdout.splitlines()
     # flow HASH hand QUEUE .. of SCHEMA DISTINGUISHER
-    return [set(line.split()[3 : 3 + hand]) for line in lines if line.startswith("flow ")]
+    return [sum(1 << int(queue) for queue in line.split()[3 : 3 + hand]) for line in lines if line.startswith("flow ")]
 
 
 def main(program):
@@ -53,7 +55,8 @@ def main(program):
         covered = 0
         for _ in range(SAMPLES):
             quiet, *others = draw.sample(hands[hand, deck], noisy + 1)
-            covered += quiet <= set().union(*others)
+            others = functools.reduce(operator.or_, others)
+            covered += quiet | others == others
         print(f"{hand:4}  {deck:4}  {noisy:11}  {published:9.5f}  {covered / SAMPLES:10.5f}")
 
 

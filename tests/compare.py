@@ -330,15 +330,25 @@ def check_long_hands():
     drawn = [(*flows[min(number, flow)], max(0, 100_000 + 5 * number - early)) for number, (flow, early) in enumerate(draws)]
     lines = [form % it for it in drawn]
     content = "".join(lines).encode()
-    trace = [request_of({"schema": schema, "distinguisher": name, "arrivesAt": at, "runsFor": 0}) for schema, name, at in drawn]
+    of_flow = {it: request_of({"schema": it[0], "distinguisher": it[1], "arrivesAt": 0, "runsFor": 0}) for it in flows}
+    trace = [{**of_flow[schema, name], "arrivesAt": at} for schema, name, at in drawn]
     tally.check("the flows come in another order than they arrive", [it["arrivesAt"] for it in trace] != sorted(it["arrivesAt"] for it in trace), True)
-    for config in (b'{"limit":6,"queues":16,"handSize":3,"queueLengthLimit":10}', b'{"limit":6,"queues":128,"handSize":6}', b'{"limit":6,"queues":2,"handSize":2}', b'{"limit":6,"limitResponse":"Reject"}'):
-        level = config_of(config)
-        (status, out, err), took = processor_seconds(lambda: printed("hands", [config, content]))
-        tally.check(f"hands of 140,000 lines on {config}", (status, err, lines_of(out) == simulation.hands(level, trace)), (0, b"", True))
-        tally.check(f"hands of 140,000 lines on {config} in well under ten seconds: {took:.2f} s", took < 10, True)
-        status, out, err = printed("hands", [config, content], "--flow=shared")
-        tally.check(f"hands of eight flows of one name on {config}", (status, err, lines_of(out) == simulation.hands_of(level, trace, "shared")), (0, b"", True))
+    # the lines are read by the same reader for each level, so the others have the first 30,000, in which each flow comes
+    many, few = len(lines), 30_000
+    tally.check("each flow comes early", len({it["hash"] for it in trace[:few]}), len(flows))
+    traces_of = {many: trace, few: trace[:few]}
+    for config, count in [
+        (b'{"limit":6,"queues":16,"handSize":3,"queueLengthLimit":10}', many),
+        (b'{"limit":6,"queues":128,"handSize":6}', few),
+        (b'{"limit":6,"queues":2,"handSize":2}', few),
+        (b'{"limit":6,"limitResponse":"Reject"}', few),
+    ]:
+        level, read = config_of(config), "".join(lines[:count]).encode()
+        (status, out, err), took = processor_seconds(lambda: printed("hands", [config, read]))
+        tally.check(f"hands of {count} lines on {config}", (status, err, lines_of(out) == simulation.hands(level, traces_of[count])), (0, b"", True))
+        tally.check(f"hands of {count} lines on {config} in well under ten seconds: {took:.2f} s", took < 10, True)
+        status, out, err = printed("hands", [config, read], "--flow=shared")
+        tally.check(f"hands of eight flows of one name on {config}", (status, err, lines_of(out) == simulation.hands_of(level, traces_of[count], "shared")), (0, b"", True))
     config = b'{"limit":6,"queues":16,"handSize":3}'
     note = 'apf: nothing matched: no flow of the trace has the distinguisher "nobody"\n'
     tally.check("no flow of 140,000 lines has the name", printed("hands", [config, content], "--flow=nobody"), (0, b"", note.encode()))
@@ -393,22 +403,22 @@ def check_hands_of_a_shared_name():
 
 
 def check_long():
-    """A trace of more lines than the reader holds: `fates` has a line for each request, in the order of the arrivals, and its numbers
+    """A trace of more lines than the reader holds and are held back, 131,072 each: `fates` has a line for each request, in the order of the arrivals, and its numbers
     are those of `simulate`. A fault behind as many lines as are held back comes after a beginning of that; one before them
     comes alone. `timeline` and `picture` refuse this many requests."""
     times = random.Random(seed)
     form = '{"hash":%d,"arrivesAt":%d,"runsFor":%d}\n'
-    draws = zip(*(times.choices(range(most), k=300_000) for most in (200, 5_000, 150)))
+    draws = zip(*(times.choices(range(most), k=270_000) for most in (200, 5_000, 150)))
     drawn = [(flow, 10 * number + late, runs) for number, (flow, late, runs) in enumerate(draws)]
     content = "".join(form % it for it in drawn).encode()
     config = b'{"limit":6,"queues":8,"handSize":2,"queueLengthLimit":10}'
     (status, out, err), took = processor_seconds(lambda: printed("fates", [config, content], "1ms"))
-    tally.check("fates of 300,000 requests", (status, err), (0, b""))
-    tally.check(f"fates of 300,000 requests in well under ten seconds: {took:.2f} s", took < 10, True)
+    tally.check("fates of 270,000 requests", (status, err), (0, b""))
+    tally.check(f"fates of 270,000 requests in well under ten seconds: {took:.2f} s", took < 10, True)
     fates = Fates(lines_of(out))
     tally.check("each of the lines has its form", fates.are_formed, True)
     meant = sorted([(at, number) for number, (_, at, _) in enumerate(drawn)])
-    tally.check("the 300,000 are in the order of the arrivals", [(int(it["arrival"]), int(it["request"])) for it in fates.rows] == meant, True)
+    tally.check("the 270,000 are in the order of the arrivals", [(int(it["arrival"]), int(it["request"])) for it in fates.rows] == meant, True)
     of_rows = [(it, drawn[int(it["request"])]) for it in fates.rows]
     tally.check("each is of its request", all(int(it["flow"], 16) == flow and (it["start"] == "-" or int(it["start"]) + runs == int(it["end"])) for it, (flow, _, runs) in of_rows), True)
     decisions = collections.Counter(it["decision"] for it in fates.rows)
@@ -418,7 +428,7 @@ def check_long():
     book = {decided[place]: int(decided[place + 1]) for place in range(0, 6, 2)}
     tally.check("they sum to the book of `simulate`", book, count)
     tally.check("many execute, find full queues and give up", min(count.values()) > 100, True)
-    for place, begins in ((131_000, False), (290_000, True)):
+    for place, begins in ((131_000, False), (268_000, True)):
         lines = content.split(b"\n")
         lines[place] = b"{}"
         status, part, err = printed("fates", [config, b"\n".join(lines)], "1ms")

@@ -23,6 +23,10 @@ from statements import page as audit_page
 
 tally = Tally()
 program = build()
+# the python3 of the commands is the one that runs this
+tools = tempfile.TemporaryDirectory(prefix="apf-test-")
+os.symlink(sys.executable, os.path.join(tools.name, "python3"))
+os.environ["PATH"] = os.pathsep.join([tools.name, os.environ["PATH"]])
 # what is shown and not run: the tests, which run this one
 SHOWN = {"./test", "./test all"}
 COMMANDS = "hash|deal|replay|services|waits|run|explain|simulate|timeline|compare|fates|requests|hands|picture|trace|objects|match|serve"

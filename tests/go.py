@@ -48,8 +48,10 @@ files = Files()
 program = build()
 room = tempfile.mkdtemp(prefix="apf-test-")
 atexit.register(shutil.rmtree, room, ignore_errors=True)
+# without what a debugger needs, which takes a third of the time of linking
+LINKED = "-ldflags=-w"
 # nothing is fetched
-environment = {**os.environ, "GOPROXY": "off", "GOFLAGS": "", "GOTOOLCHAIN": "local", "CGO_ENABLED": "1", "CC": os.environ.get("CC", "cc"), "APF_PROGRAM": program}
+environment = {**os.environ, "GOPROXY": "off", "GOFLAGS": LINKED, "GOTOOLCHAIN": "local", "CGO_ENABLED": "1", "CC": os.environ.get("CC", "cc"), "APF_PROGRAM": program}
 environment.setdefault("GOCACHE", os.path.join(os.path.expanduser("~"), ".cache", "go-build") if os.access(os.path.expanduser("~"), os.W_OK) else os.path.join(room, "cache"))
 soft, hard = resource.getrlimit(resource.RLIMIT_NOFILE)
 resource.setrlimit(resource.RLIMIT_NOFILE, (min(hard, 20_000) if hard != resource.RLIM_INFINITY else 20_000, hard))
@@ -806,7 +808,8 @@ def test_level_that_dies():
                 # as long as it takes while the level is killed again and again
                 it.settimeout(10 * MOST)
                 served[answer_of(it)[0]] += 1
-            over.wait(0.1)
+            # about a thousand requests come a second, of all clients
+            over.wait(0.2)
 
     clients = [threading.Thread(target=client, args=(number,), daemon=True) for number in range(200)]
     for it in clients:

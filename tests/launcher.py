@@ -334,7 +334,7 @@ for name, number, is_alone in (
 unbuilt = Checkout("unbuilt")
 shutil.copytree(os.path.join(TOP, "tests", "lib"), os.path.join(unbuilt.top, "tests", "lib"), ignore=shutil.ignore_patterns("__pycache__"))
 shutil.copy(os.path.join(TOP, "tests", "deals.py"), os.path.join(unbuilt.top, "tests"))
-environment = {key: value for key, value in os.environ.items() if key != "APF_PROGRAM"}
+environment = {key: value for key, value in os.environ.items() if key not in ("APF_PROGRAM", "APF_CHOSEN")}
 done = subprocess.run(
     [sys.executable, os.path.join(unbuilt.top, "tests", "deals.py")], capture_output=True, env=dict(environment, PATH=TOOLS), timeout=60
 )

@@ -27,7 +27,7 @@ print(f"seed {seed}")
 
 
 def claims(*rows):
-    return [Claim(*it) for it in rows]
+    return tuple(Claim(*it) for it in rows)
 
 
 # the first level asks for 60 seats and may have 50 at most; the others share the 50 that are left as 20 is to 30

@@ -7,8 +7,10 @@ import json
 import os
 import pty
 import re
+import signal
 import subprocess
 import sys
+import threading
 import time
 
 sys.path.insert(0, os.path.join(os.path.dirname(os.path.abspath(__file__)), "lib"))
@@ -18,15 +20,28 @@ from in_c import compiled, level_of
 tally = Tally()
 program = build()
 files = Files()
-# a run of so many takes a second or so
-MANY = int(os.environ.get("APF_REQUESTS", "500000"))
+# nearly twice as many as are read before the first request is handed out: the hundredths are told while lines are read, and behind that
+MANY = int(os.environ.get("APF_REQUESTS", "250000"))
+# of runs whose hundredths are not looked at
+FEW = MANY // 5
 # how long a line stands, in seconds
 PAUSE = 0.25
+# for how long a program runs before it is held for the first time, which is a part of what the shortest takes
+RUNS = 0.02
 LINE = re.compile(rb"(\d+) (?:requests|lines)(?:, (\d+) s of the trace)?, (\d+) a second(?:, (\d+) wait)?(?:, (\d+) %)?")
 
 
+def hold(process, is_over):
+    """Holds a program again and again, each time after twice as long: its clock goes on, so a line is due each time, and no processor is busy meanwhile."""
+    runs = RUNS / 2
+    while not is_over.wait(runs := 2 * runs):
+        process.send_signal(signal.SIGSTOP)
+        time.sleep(PAUSE)
+        process.send_signal(signal.SIGCONT)
+
+
 class Seen:
-    """A program whose standard error is a terminal, and standard output a file, or that terminal too."""
+    """A program whose standard error is a terminal, and standard output a file, or that terminal too. The program is held now and then."""
 
     def __init__(self, words, shares=False, hangs_up=False, stdin=subprocess.DEVNULL):
         ours, theirs = pty.openpty()
@@ -35,6 +50,9 @@ class Seen:
         with open(self.path, "wb") as file:
             process = subprocess.Popen([program, *words], stdin=stdin, stdout=theirs if shares else file, stderr=theirs)
         os.close(theirs)
+        is_over = threading.Event()
+        holding = threading.Thread(target=hold, args=(process, is_over))
+        holding.start()
         pieces = []
         # a terminal that hangs up does so at the first line
         while not (hangs_up and pieces):
@@ -47,6 +65,8 @@ class Seen:
             pieces.append(got)
         os.close(ours)
         self.shown = b"".join(pieces)
+        is_over.set()
+        holding.join()
         self.status = process.wait()
         self.seconds = time.monotonic() - begin
 
@@ -101,7 +121,7 @@ def judge_pace(name, seen):
 def drawn(many):
     """A trace, with its requests' arrivals in their order."""
     text = subprocess.run([compiled(files, "long"), "trace", "7", str(many), "200", "100", "0"], stdout=subprocess.PIPE, check=True).stdout
-    return files("trace", text), sorted(map(int, re.findall(rb'"arrivesAt":(\d+)', text)))
+    return files(f"trace{many}", text), sorted(map(int, re.findall(rb'"arrivesAt":(\d+)', text)))
 
 
 def trace_of(many):
@@ -138,16 +158,7 @@ def check_simulation():
     tally.check("simulate prints the same", seen.printed() == plain, True)
     tally.check("simulate: the seconds of the trace", [it[1] for it in told], [arrivals[it[0] - 1] // 1_000_000 for it in told])
     tally.check("simulate: the hundredths are of who came", [it for it in told if abs(it[4] - 100 * it[0] / MANY) > 3], [])
-    _, fates, _ = run(program, ["fates", *words[1:]])
-    judge_waits("simulate", told, arrivals, fates)
-    for command, more, want in [
-        ("fates", [], fates),
-        ("compare", [], run(program, ["compare", config, *words[1:]])[1]),
-        ("picture", ["--from", "0", "--to", "1ms"], run(program, ["picture", *words[1:], "--from", "0", "--to", "1ms"])[1]),
-    ]:
-        seen = Seen([command, *([config] if command == "compare" else []), *words[1:], *more])
-        judge_pace(command, seen)
-        tally.check(f"{command} prints the same", seen.printed() == want, True)
+    judge_waits("simulate", told, arrivals, run(program, ["fates", *words[1:]])[1])
     # a trace whose size is not known
     with open(path, "rb") as file:
         cat = subprocess.Popen(["cat"], stdin=file, stdout=subprocess.PIPE)
@@ -156,6 +167,21 @@ def check_simulation():
         cat.wait()
     told = judge_pace("by a pipe", seen)
     tally.check("by a pipe: no hundredths", [it for it in told if it[4] is not None], [])
+
+
+def check_other_commands():
+    config = files("config", json.dumps(level_of(100, 64, 8, 50)))
+    path, _ = trace_of(FEW)
+    words = ["simulate", config, path, "500ms"]
+    plain, fates = (run(program, [command, *words[1:]])[1] for command in ("simulate", "fates"))
+    for command, more, want in [
+        ("fates", [], fates),
+        ("compare", [], run(program, ["compare", config, *words[1:]])[1]),
+        ("picture", ["--from", "0", "--to", "1ms"], run(program, ["picture", *words[1:], "--from", "0", "--to", "1ms"])[1]),
+    ]:
+        seen = Seen([command, *([config] if command == "compare" else []), *words[1:], *more])
+        judge_pace(command, seen)
+        tally.check(f"{command} prints the same", seen.printed() == want, True)
     # one terminal for both: the line goes before anything is printed, and fates, which prints as it goes on, has none
     shared = Seen(words, shares=True)
     tally.check("one terminal: lines come", shared.lines() != [] and LINE.match(shared.lines()[0]) is not None, True)
@@ -171,7 +197,7 @@ def check_rounds():
     config = files("config", json.dumps(level_of(2, 2, 1, 50)))
     requests = files("requests", json.dumps([{"hash": it, "work": 100} for it in range(50)]))
     rounds, seconds = 100, 0
-    while seconds < 0.7 and rounds < 1_000_000:
+    while seconds < 5 * RUNS and rounds < 1_000_000:
         rounds *= 2
         begin = time.monotonic()
         status, plain, errors = run(program, ["run", config, requests, "3", "--rounds", str(rounds)])
@@ -220,6 +246,7 @@ def check_lines():
 
 
 check_simulation()
+check_other_commands()
 check_lines()
 check_rounds()
 tally.end()

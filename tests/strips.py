@@ -1,6 +1,7 @@
 """The picture that `cluster --picture` draws, on the built program, against an independent computation: each column is the mean of what the independent
 levels had in its time. Drawn clusters, one alone or two side by side, clusters worked by hand, and files that can't be written."""
 
+import itertools
 import json
 import os
 import random
@@ -56,10 +57,18 @@ class Strip:
 
 def means(spans, width):
     """The mean of each column in thousandths: of the time that it shares with each span, rounded down."""
-    sums = [0] * BINS
+    # what stands in a part of a column alone; and how much more the column has than the one before it of what stands in all of it
+    sums, steps = [0] * (BINS + 1), [0] * (BINS + 1)
     for amount, begin, to in spans:
-        for place in range(begin // width, min(BINS, -(-to // width))):
-            sums[place] += amount * (min(to, (place + 1) * width) - max(begin, place * width))
+        first, last = begin // width, min(BINS, to // width)
+        if first == last:
+            sums[last] += amount * (to - begin)
+        elif first < last:
+            sums[first] += amount * ((first + 1) * width - begin)
+            sums[last] += amount * (to - last * width)
+            steps[first + 1] += amount
+            steps[last] -= amount
+    sums = [own + whole * width for own, whole in zip(sums[:BINS], itertools.accumulate(steps))]
     return [it * 1000 // width for it in sums], sums
 
 
@@ -76,22 +85,23 @@ def path(columns, heights, foot, first, width, end):
     return said
 
 
-def area(spans, high, foot, most, width, end):
-    heights = [min(high, it // (most // high + 1)) for it in means(spans, width)[0]]
+def area(thousandths, high, foot, most, width, end):
+    heights = [min(high, it // (most // high + 1)) for it in thousandths]
     return f"{path(range(BINS), heights, foot, f'M0 {foot}', width, end)}H{WIDE}V{foot}z"
 
 
 def drawn_of(strip, exempt, width, end):
     """The numbers of a strip, and the paths of its seats, its limit, who waits and who was rejected."""
-    seats, limit, waiting = (max(means(it, width)[0]) for it in (strip.seats, strip.limit, strip.waiting))
+    of_seats, of_limit, of_waiting = (means(it, width)[0] for it in (strip.seats, strip.limit, strip.waiting))
+    seats, limit, waiting = map(max, (of_seats, of_limit, of_waiting))
     most = seats if exempt else max(seats, limit)
     facts = f"seats in use at most {decimal(seats)}, {'no limit' if exempt else f'limit at most {decimal(limit)}'}, waiting at most {decimal(waiting)}, {len(strip.rejected)} rejected"
-    paths = [("seats", area(strip.seats, 60, 86, most, width, end))]
+    paths = [("seats", area(of_seats, 60, 86, most, width, end))]
     if not exempt:
-        heights = [min(60, it // (most // 60 + 1)) for it in means(strip.limit, width)[0]]
+        heights = [min(60, it // (most // 60 + 1)) for it in of_limit]
         whole = min(BINS, max(1, end // width))
         paths.append(("limit", f"{path(range(1, whole), heights, 86, f'M0 {86 - heights[0]}', width, end)}H{WIDE}"))
-    paths.append(("waiting", area(strip.waiting, 24, 114, waiting, width, end)))
+    paths.append(("waiting", area(of_waiting, 24, 114, waiting, width, end)))
     marks = [place for place, it in enumerate(means(strip.rejected, width)[1]) if it]
     paths.append(("rejected", "".join(f"M{min(it * width, end) * WIDE // end if end else 0} 116v8" for it in marks)))
     return facts, paths

@@ -194,6 +194,11 @@ for words in (("most",), ("all", "all"), ("",)):
     out, err = running.communicate(timeout=60)
     tally.check(f"test: the words {words}", (running.returncode, out, err), (2, "", "usage: ./test [all]\n"))
 
+# the scripts are told which program the launcher chose
+told = ("1 passed, 0 failed", "0 if os.environ.get('APF_CHOSEN', '').endswith('/program/x86_64-linux/apf') else 1")
+status, lines, is_called = without_kit("told the program", told)
+tally.check("test: scripts are told the program", (status, lines[-1], is_called), (0, "1 passed, 0 failed", False))
+
 # side by side: each of two scripts waits for the other one, and what each says stands whole, in the order of their names
 MEETS = "open('met-%d', 'w').close()\nfor _ in range(400): os.path.exists('met-%d') or time.sleep(0.05)\nmet = os.path.exists('met-%d')"
 both = [("1 passed, 0 failed", "0 if met else 1", MEETS % (one, other, other)) for one, other in ((0, 1), (1, 0))]

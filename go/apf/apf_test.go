@@ -416,8 +416,9 @@ func TestKilledUnderLoad(t *testing.T) {
 						ctx, cancel = context.WithTimeout(context.Background(), time.Duration(i)*time.Millisecond/5)
 					}
 					seat, err := l.Acquire(ctx, Request{Distinguisher: fmt.Sprint(i), Width: 1 + i%3})
+					// who is refused at once does not keep a processor busy
+					time.Sleep(time.Millisecond)
 					if err == nil {
-						time.Sleep(time.Millisecond)
 						seat.Release()
 					}
 					cancel()

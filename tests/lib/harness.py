@@ -23,9 +23,12 @@ def lines_of_crates(*names):
 
 
 def build():
-    """The path of the program that the launcher runs, which is built where that is needed. APF_PROGRAM names another one to test."""
+    """The path of the program that the launcher runs, which is built where that is needed. APF_PROGRAM names another one to test. Where APF_CHOSEN has that
+    path, the launcher was asked before."""
     if os.environ.get("APF_PROGRAM"):
         return os.path.abspath(os.environ["APF_PROGRAM"])
+    if os.environ.get("APF_CHOSEN"):
+        return os.environ["APF_CHOSEN"]
     if subprocess.run([LAUNCHER, "hash", "", ""], stdout=subprocess.DEVNULL).returncode != 0:
         # the launcher has said why
         print("0 passed, 1 failed")
@@ -97,8 +100,9 @@ def can_wait_for_a_number():
 HAS_PIPES_ALONE = not can_wait_for_a_number()
 written = None if HAS_PIPES_ALONE else Written()
 NOTHING = os.open(os.devnull, os.O_RDONLY)
-# what each program is given, which is not looked up anew for each of thousands
-ENVIRONMENT = dict(os.environ)
+# what each program is given, which is not looked up anew for each of thousands. The C library takes memory in large pages where the system has them, and gives none
+# of it back: `cluster` touches 24 MB, for each page of which the system would have to be asked, and some thousand runs of it are that short
+ENVIRONMENT = {"GLIBC_TUNABLES": ":".join(f"glibc.malloc.{it}" for it in ("hugetlb=1", "top_pad=33554432", "mmap_threshold=33554432", "trim_threshold=67108864")), **os.environ}
 
 
 def pipe_of(content):

@@ -1,11 +1,12 @@
 """How a server lends seats among its levels: an independent computation, written from the rules, with exact fractions, and slow on purpose. Nothing is kept of
-what requests ask for: it is made anew at the end of each period, from the times at which they came and were over.
+what requests ask for, but which of them were over before: it is made anew at the end of each period, from the times at which they came and were over.
 
 A level is a dict: `exempt`, `shares`, `lendable` and `borrowing`, both in per cent, the second of them None where there is no limit. It may
 have a nominal limit that is `fixed`, in seats.
 """
 
 import collections
+import functools
 import math
 
 from simulation import ARRIVE
@@ -44,22 +45,31 @@ def limit_of(seats):
 # ---- what requests ask for
 
 
-def stays_of(run, since=-math.inf):
+def stays_of(run, since, left):
     """From when until when each request is there that arrived and was not rejected, without an end as long as none is known, and for how many seats it asks;
-    of those that are there later than this time."""
-    started, waited_until, decided, coming = run.started, run.waited_until, run.level.decided, run.coming
-    for request, asked in enumerate(run.trace):
+    of those that are there later than this time. `left` are the requests of which it may be so, and then those of which it may be so later."""
+    started, waited_until, decided, coming, trace = run.started, run.waited_until, run.level.decided, run.coming, run.trace
+    stays, later = [], []
+    for request in left:
+        asked = trace[request]
         if request in started:
             over = started[request] + asked["runsFor"]
         elif request in waited_until:
             over = waited_until[request]
-        elif request in decided or request in coming:
-            # it was rejected, or did not arrive yet
+        elif request in coming:
+            # it did not arrive yet
+            later.append(request)
+            continue
+        elif request in decided:
+            # it was rejected
             continue
         else:
             over = math.inf
         if over > since:
-            yield asked["arrivesAt"], over, asked["width"]
+            stays.append((asked["arrivesAt"], over, asked["width"]))
+            later.append(request)
+    left[:] = later
+    return stays
 
 
 def stretches_of(stays, begin, end):
@@ -133,6 +143,8 @@ def way_of(seats, claims):
     return "most" if sum(it.most if it.target else it.current for it in claims) < seats else "factor"
 
 
+# the last ones are kept: where nobody asks for seats, one period is as the one before it
+@functools.lru_cache(maxsize=64)
 def division(seats, claims):
     """The limit of each level."""
     way = way_of(seats, claims)
@@ -156,6 +168,8 @@ class Lender:
 
     def __init__(self, levels, runs, seats):
         self.levels, self.runs = levels, runs
+        # most levels are asked for nothing
+        self.asked, self.left = [it for it in runs if it.trace], [[*range(len(it.trace))] for it in runs]
         self.bounds = [bounds_of(it, levels, seats) for it in levels]
         # what is divided
         self.seats = sum(it.nominal for it in self.bounds)
@@ -173,24 +187,23 @@ class Lender:
 
     def go_on(self, time):
         """Carries out what comes in front of the end of a period at this time: all that is due, but for requests that arrive then."""
-        for run in self.runs:
+        for run in self.asked:
             run.go_on((time, ARRIVE))
 
     def is_anybody_there(self, time):
         self.go_on(time)
-        return any(run.level.running or run.level.waiting() for run in self.runs)
+        return any(run.level.running or run.level.waiting() for run in self.asked)
 
     def adjust(self, time):
         self.go_on(time)
         claims = []
         for place, run in enumerate(self.runs):
-            stays = [*stays_of(run, time - PERIOD)]
-            # most levels are asked for nothing
+            stays = self.left[place] and stays_of(run, time - PERIOD, self.left[place])
             observed = observed_of(stretches_of(stays, time - PERIOD, time)) if stays else NOTHING
             self.smoothed[place] = smoothed_of(self.smoothed[place], observed)
             claims.append(claim_of(self.levels[place], self.bounds[place], observed.high, self.smoothed[place]))
         self.adjusted.append((time, claims))
-        for level, run, limits, seats in zip(self.levels, self.runs, self.limits, division(self.seats, claims)):
+        for level, run, limits, seats in zip(self.levels, self.runs, self.limits, division(self.seats, tuple(claims))):
             if not level["exempt"]:
                 limits.append(limit_of(seats))
                 run.set_limit(time, limit_of(seats))

@@ -8,7 +8,7 @@ from judge import Refused, config_of, dealer_fault, requests_of, script_of
 DECISIONS = ("execute", "queue-full", "closed", "concurrency-limit", "cancelled")
 
 
-@functools.lru_cache(maxsize=1024)
+@functools.lru_cache(maxsize=4096)
 def hand_of(deck, hand, number):
     """Takes cards out of a list. What is dealt is not changed by who asks."""
     cards, dealt = list(range(deck)), []

@@ -52,8 +52,8 @@ static char *room_for(size_t size) {
 
 #define PUT(text) memcpy(room_for(sizeof text - 1), text, sizeof text - 1)
 
-/* A number of this many digits, with zeros in front. */
-static void padded(uint64_t number, int digits, unsigned base) {
+/* A number of this many digits, with zeros in front. The bases are known where it is compiled: division by them is a multiplication. */
+static inline __attribute__((always_inline)) void padded(uint64_t number, int digits, unsigned base) {
     char *at = room_for(digits);
     while (digits--) {
         at[digits] = "0123456789abcdef"[number % base];
@@ -62,10 +62,11 @@ static void padded(uint64_t number, int digits, unsigned base) {
 }
 
 static void put_number(uint64_t number) {
-    int digits = 1;
-    for (uint64_t left = number; left > 9; left /= 10)
-        digits++;
-    padded(number, digits, 10);
+    char digits[20], *at = digits + sizeof digits;
+    do {
+        *--at = '0' + number % 10;
+    } while (number /= 10);
+    memcpy(room_for(digits + sizeof digits - at), at, digits + sizeof digits - at);
 }
 
 /* xorshift64* */

@@ -238,8 +238,9 @@ class Heights:
         self.times = sorted(changes)
         self.sums = [*itertools.accumulate((changes[time] for time in self.times), initial=0)]
 
-    def at(self, time):
-        return self.sums[bisect.bisect_right(self.times, time)]
+    def over(self, times):
+        """How much is there at each of these times."""
+        return [self.sums[bisect.bisect_right(self.times, time)] for time in times]
 
 
 class Picture:
@@ -264,11 +265,13 @@ class Picture:
         # when requests execute, and how wide they are: of the rows up to each one; and when they wait, of each queue
         self.executing = [Heights(self.executing_in(self.rows[: row + 1])) for row in range(OWN_ROWS + 1)]
         self.waiting = {queue: Heights([(self.begins(it), self.until(it), 1) for it, other in self.entered.items() if other == queue]) for queue in self.queues}
-        self.areas = [[self.seats(row, time) for time in self.times] for row in range(len(self.rows))]
-        self.lengths = [[self.length(queue, time) for time in self.times] for queue in self.queues]
+        # the seats in use at each time by the rows up to each one, and how many stand in each queue
+        self.areas = [self.executing[row].over(self.times) for row in range(len(self.rows))]
+        self.lengths = [self.waiting[queue].over(self.times) for queue in self.queues]
         # over time, and not at the columns alone: more are in use, or wait, only where one begins to
-        self.used = max((self.seats(OWN_ROWS, time) for time in self.moments(map(self.until, range(len(self.trace))))), default=0)
-        self.longest = max((self.length(queue, time) for queue in self.queues for time in self.moments(map(self.begins, self.entered))), default=0)
+        self.used = max(self.executing[OWN_ROWS].over(self.moments(map(self.until, range(len(self.trace))))))
+        entries = self.moments(map(self.begins, self.entered))
+        self.longest = max((max(it.over(entries)) for it in self.waiting.values()), default=0)
 
     def moments(self, times):
         """Those of the times that are drawn, and the beginning."""
@@ -288,14 +291,6 @@ class Picture:
     def executing_in(self, rows):
         members = [it for row in rows for it in row.members if it in self.run.started]
         return [(self.until(it), self.until(it) + self.trace[it]["runsFor"], self.trace[it]["width"]) for it in members]
-
-    def seats(self, row, time):
-        """The seats in use at the time by the rows up to this one."""
-        return self.executing[row].at(time)
-
-    def length(self, queue, time):
-        """How many stand in the queue at the time."""
-        return self.waiting[queue].at(time)
 
     # in words
 

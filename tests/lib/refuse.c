@@ -4,7 +4,7 @@
  *
  * Where APF_RUNS names two files that are open, as "ASKS ANSWERS", the program is loaded once, and runs from its first
  * line on in a child for each number that is asked for: the one of the allocation that is refused then. An ask is eight
- * bytes. An answer is three times eight, the status and the lengths of output and errors, and these.
+ * bytes. An answer is four times eight, the status, whether it was refused, and the lengths of output and errors, and these.
  *
  * Where APF_FORKS is set too, the program is of one thread, and the numbers that are asked for mostly ascend. Then one run goes on to the allocation that is
  * asked for, and a child of it, with copies of what was printed, goes on without that one: what comes before it is not run anew. Where a run comes to its end,
@@ -15,6 +15,7 @@
 #include <stdint.h>
 #include <stdio.h>
 #include <stdlib.h>
+#include <string.h>
 #include <sys/mman.h>
 #include <sys/wait.h>
 #include <unistd.h>
@@ -31,6 +32,10 @@ static long without;
 
 static void follow(long number);
 
+/* What the one that begins runs sees too: the number that is asked for, or 0 where none is; whether a run ended since that lies behind it; and whether an
+ * allocation was refused. */
+static struct { int64_t number, is_behind, is_refused; } *asked;
+
 static int refuses(size_t size) {
     const char *which = getenv("APF_REFUSE"), *together = getenv("APF_TOGETHER"), *least = getenv("APF_LEAST");
     if ((!which && !is_followed && !without) || (least && size < (size_t)atol(least)))
@@ -43,6 +48,8 @@ static int refuses(size_t size) {
     long behind = number - (without ? without : atol(which));
     if (behind < 0 || behind >= (together ? atol(together) : 1))
         return 0;
+    if (asked)
+        asked->is_refused = 1;
     const char *name = getenv("APF_REFUSED");
     int file = name ? open(name, O_CREAT | O_WRONLY, 0600) : -1;
     if (file >= 0)
@@ -92,18 +99,24 @@ static int passes(int file, int64_t length, int to) {
 
 static int is_empty(int file) { return ftruncate(file, 0) == 0 && lseek(file, 0, SEEK_SET) == 0; }
 
+/* A short answer is one piece. */
 static int answers_with(int answers, int status, const int *printed) {
-    int64_t told[3] = {WIFEXITED(status) ? WEXITSTATUS(status) : -WTERMSIG(status), lseek(printed[0], 0, SEEK_END), lseek(printed[1], 0, SEEK_END)};
-    return gives(answers, told, sizeof told) && passes(printed[0], told[1], answers) && passes(printed[1], told[2], answers);
+    int64_t told[4] = {WIFEXITED(status) ? WEXITSTATUS(status) : -WTERMSIG(status), asked->is_refused, lseek(printed[0], 0, SEEK_END), lseek(printed[1], 0, SEEK_END)};
+    char piece[4096];
+    asked->is_refused = 0;
+    if (told[2] + told[3] > (int64_t)(sizeof piece - sizeof told))
+        return gives(answers, told, sizeof told) && passes(printed[0], told[2], answers) && passes(printed[1], told[3], answers);
+    memcpy(piece, told, sizeof told);
+    return pread(printed[0], piece + sizeof told, told[2], 0) == told[2] && pread(printed[1], piece + sizeof told + told[2], told[3], 0) == told[3] &&
+           gives(answers, piece, sizeof told + told[2] + told[3]);
 }
 
-/* What the one that begins runs sees too: the number that is asked for, or 0 where none is; and whether a run ended since that lies behind it. */
-static struct { int64_t number, is_behind; } *asked;
 static int asks, answers;
 /* what a child prints, behind what was printed before it */
 static int copies[2];
 
-enum { OPEN_FILES = 64 };
+/* the most that are open, and how many are closed in a row where there is none behind them */
+enum { OPEN_FILES = 64, CLOSED = 8 };
 
 static int copy(int from, int to) {
     char piece[4096];
@@ -118,9 +131,12 @@ static int copy(int from, int to) {
 static void follow(long number) {
     while (asked->number == number) {
         off_t places[OPEN_FILES];
+        int files = 0;
         /* the child moves the places in files that both have open */
-        for (int file = 0; file < OPEN_FILES; file++)
-            places[file] = lseek(file, 0, SEEK_CUR);
+        for (int closed = 0; files < OPEN_FILES && closed < CLOSED; files++) {
+            places[files] = lseek(files, 0, SEEK_CUR);
+            closed = places[files] < 0 && errno == EBADF ? closed + 1 : 0;
+        }
         for (int file = 0; file < 2; file++)
             if (!is_empty(copies[file]) || !copy(file + 1, copies[file]))
                 _exit(125);
@@ -137,7 +153,7 @@ static void follow(long number) {
         int status;
         if (child < 0 || waitpid(child, &status, 0) != child || !answers_with(answers, status, copies))
             _exit(125);
-        for (int file = 0; file < OPEN_FILES; file++)
+        for (int file = 0; file < files; file++)
             if (places[file] >= 0)
                 lseek(file, places[file], SEEK_SET);
         if (!takes(asks, &asked->number, sizeof asked->number))
@@ -159,11 +175,14 @@ __attribute__((constructor)) static void runs(void) {
     printed[1] = memfd_create("errors", MFD_CLOEXEC);
     if (printed[0] < 0 || printed[1] < 0)
         _exit(125);
+    void *shared = mmap(NULL, sizeof *asked, PROT_READ | PROT_WRITE, MAP_SHARED | MAP_ANONYMOUS, -1, 0);
+    if (shared == MAP_FAILED)
+        _exit(125);
+    asked = shared;
     if (forks) {
         copies[0] = memfd_create("output", MFD_CLOEXEC);
         copies[1] = memfd_create("errors", MFD_CLOEXEC);
-        asked = mmap(NULL, sizeof *asked, PROT_READ | PROT_WRITE, MAP_SHARED | MAP_ANONYMOUS, -1, 0);
-        if (copies[0] < 0 || copies[1] < 0 || asked == MAP_FAILED)
+        if (copies[0] < 0 || copies[1] < 0)
             _exit(125);
     }
     for (int64_t number; forks ? asked->number || takes(asks, &asked->number, sizeof number) : takes(asks, &number, sizeof number);) {

@@ -24,16 +24,20 @@ class Refusing:
 
     def __init__(self, files, shim, program, words, content=b"", cwd=None, together=1, least=0):
         self.words, self.shim, self.cwd, self.together, self.least = [program, *words], shim, cwd, together, least
-        self.marker = os.path.join(files.folder.name, "refused")
+        # what stands in front of a program begins it itself, and of that it sees this file alone
+        self.marker = os.path.join(files.folder.name, "refused") if os.environ.get("APF_PROGRAM") else None
+        self.told = b""
         self.content = files("content", content)
 
     def __enter__(self):
         asks, self.asks = os.pipe()
         self.answers, answers = os.pipe()
-        environment = {**os.environ, "LD_PRELOAD": self.shim, "APF_REFUSED": self.marker, "APF_RUNS": f"{asks} {answers}", "APF_TOGETHER": str(self.together)}
+        environment = {**os.environ, "LD_PRELOAD": self.shim, "APF_RUNS": f"{asks} {answers}", "APF_TOGETHER": str(self.together)}
         environment["APF_LEAST"] = str(self.least)
-        # the commands of workers have many threads, and what stands in front of a program begins it itself
-        if self.words[1] != "run" and not os.environ.get("APF_PROGRAM"):
+        if self.marker:
+            environment["APF_REFUSED"] = self.marker
+        # the commands of workers have many threads
+        if self.words[1] != "run" and not self.marker:
             environment["APF_FORKS"] = "1"
         with open(self.content, "rb") as content:
             self.process = subprocess.Popen(self.words, stdin=content, pass_fds=(asks, answers), env=environment, cwd=self.cwd, start_new_session=True)
@@ -52,22 +56,21 @@ class Refusing:
             self.process.wait()
 
     def read(self, length):
-        parts = []
-        while length:
+        while len(self.told) < length:
             if not select.select([self.answers], [], [], MOST)[0]:
                 raise subprocess.TimeoutExpired(self.words, MOST)
-            part = os.read(self.answers, length)
+            part = os.read(self.answers, 65_536)
             if not part:
                 raise EOFError(f"{self.words} ended")
-            parts.append(part)
-            length -= len(part)
-        return b"".join(parts)
+            self.told += part
+        read, self.told = self.told[:length], self.told[length:]
+        return read
 
     def without(self, number):
         """The status, output and errors of the run without the allocation of this number, and whether it was refused: else there are fewer."""
-        if os.path.exists(self.marker):
+        if self.marker and os.path.exists(self.marker):
             os.remove(self.marker)
         os.write(self.asks, struct.pack("q", number))
-        status, out, err = struct.unpack("qqq", self.read(24))
+        status, is_refused, out, err = struct.unpack("qqqq", self.read(32))
         out, err = self.read(out), self.read(err)
-        return (status, out, err), os.path.exists(self.marker)
+        return (status, out, err), os.path.exists(self.marker) if self.marker else is_refused != 0

@@ -126,10 +126,15 @@ def shown(text):
 # ---- what is drawn
 
 
+MARKS = str.maketrans({'"': '\\"', "\\": "\\\\", "\n": "\\n", "\t": "\\t"})
+
+
 def quoted(text, draw):
     """A text as Go quotes it, with one or the other way to write what it can write in two."""
-    marks = {'"': '\\"', "\\": "\\\\", "\n": "\\n", "\t": "\\t"}
-    return '"' + "".join(marks.get(it) or (f"\\u{ord(it):04x}" if 127 < ord(it) < 65_536 and draw.random() < 0.5 else it) for it in text) + '"'
+    marked = text.translate(MARKS)
+    if not marked.isascii():
+        marked = "".join(f"\\u{ord(it):04x}" if 127 < ord(it) < 65_536 and draw.random() < 0.5 else it for it in marked)
+    return f'"{marked}"'
 
 
 class ServerLogs:

@@ -32,9 +32,9 @@ struct request {
 };
 
 struct queue {
-    /* the cost is that of the first one */
-    uint32_t first, last, length, cost;
-    service start;
+    uint32_t first, last, length;
+    /* where somebody waits, `finish` is the start and the cost of the first one */
+    service start, finish;
 };
 
 struct row {
@@ -326,12 +326,18 @@ static int fits(const struct request *it) {
     return seats == 0 || seats + it->width <= limit;
 }
 
+/* Once its start has changed, or its first one. */
+static void changed(struct queue *queue) {
+    if (queue->length)
+        queue->finish = queue->start + all[queue->first].cost;
+}
+
 static void leave(struct queue *queue) {
     queue->first = all[queue->first].next;
     queue->length--;
-    queue->cost = queue->length ? all[queue->first].cost : 0;
     if (!queue->length)
         busy[(queue - queues) / 64] &= ~(1ull << (queue - queues) % 64);
+    changed(queue);
     waiting--;
 }
 
@@ -346,9 +352,9 @@ static void dispatch(int64_t now) {
             uint64_t bits = busy[word] & (step == 0 ? behind : step == words ? ~behind : ~0ull);
             for (; bits; bits &= bits - 1) {
                 struct queue *queue = &queues[64 * word + __builtin_ctzll(bits)];
-                if (!chosen || queue->start + queue->cost < best) {
+                if (!chosen || queue->finish < best) {
                     chosen = queue;
-                    best = queue->start + queue->cost;
+                    best = queue->finish;
                 }
             }
         }
@@ -359,6 +365,7 @@ static void dispatch(int64_t now) {
         if (virtual_time < chosen->start)
             virtual_time = chosen->start;
         chosen->start = best;
+        changed(chosen);
         last_served = chosen - queues;
         all[number].charged = last_served;
         dispatched++;
@@ -370,8 +377,10 @@ static void finish(int64_t now) {
     struct request *it = &all[first_to_end()];
     if (by == BY_TIME) {
         sum took = (sum)it->width * it->runs;
-        if (it->charged >= 0)
+        if (it->charged >= 0) {
             queues[it->charged].start += (service)(took < 1 ? 1 : took > (sum)1 << 46 ? (sum)1 << 46 : took) - it->cost;
+            changed(&queues[it->charged]);
+        }
         learn(it);
     }
     it->state = EXECUTED;
@@ -440,8 +449,8 @@ static void arrive(uint32_t number, int64_t now) {
         *(queue->length ? &all[queue->last].next : &queue->first) = number;
         queue->last = number;
         if (!queue->length++) {
-            queue->cost = it->cost;
             busy[it->queue / 64] |= 1ull << it->queue % 64;
+            changed(queue);
         }
         it->state = WAITING;
         waiting++;

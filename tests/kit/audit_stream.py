@@ -17,7 +17,7 @@ from harness import Tally, build_crate
 from matching import distinguisher_of, schema_of
 
 tally = Tally()
-program = build_crate("apf_audit_trials")
+program = build_crate("apf_trials")
 # the same draws each time; APF_SEED draws others
 seed = int(os.environ.get("APF_SEED", "2044"))
 draw = random.Random(seed)
@@ -32,7 +32,7 @@ def ran(size, by, pieces, *more):
     """What the program prints of the log, its status, the most memory that it had up to the log's end, in KiB, and its seconds of a processor. It prints
     while it is given more, so what it prints goes to a file."""
     most = 0
-    with tempfile.TemporaryFile() as out, subprocess.Popen([program, str(size), by, *more], stdin=subprocess.PIPE, stdout=out) as process:
+    with tempfile.TemporaryFile() as out, subprocess.Popen([program, "audits", str(size), by, *more], stdin=subprocess.PIPE, stdout=out) as process:
         try:
             for piece in pieces:
                 process.stdin.write(piece)

@@ -12,7 +12,7 @@ sys.path.insert(0, os.path.join(HERE, "lib"))
 from harness import Files, Tally, build_crate
 
 tally = Tally()
-program = build_crate("apf_level_trials")
+program = build_crate("apf_trials")
 files = Files()
 counter = os.path.join(files.folder.name, "futexes")
 subprocess.run(["cc", "-O1", "-o", counter, os.path.join(HERE, "lib", "futexes.c")], check=True)
@@ -34,5 +34,5 @@ for calls in (0, 3):
     subprocess.run(["cc", "-static", "-o", tried, source], check=True)
     tally.check(f"a program with {calls} calls", futexes([tried]), (7, calls))
 # it dispatches a request, and cancels one that waits
-tally.check("a level of one thread", futexes([program, "memory"]), (0, 0))
+tally.check("a level of one thread", futexes([program, "levels", "memory"]), (0, 0))
 tally.end()

@@ -16,14 +16,14 @@ SEEDS = range(1, 11)
 REQUESTS = 10_000
 
 tally = Tally()
-program = build_crate("apf_level_trials")
+program = build_crate("apf_trials")
 print("seeds", *SEEDS)
 
 
 def report_of(seed):
     """The report of the level of this seed, or None if there is none in time."""
     try:
-        status, out, err = run(program, ["stress", str(seed), str(REQUESTS)])
+        status, out, err = run(program, ["levels", "stress", str(seed), str(REQUESTS)])
     except subprocess.TimeoutExpired:
         tally.check(f"seed {seed} ends in two minutes", False, True)
         return None

@@ -9,7 +9,7 @@ sys.path.insert(0, os.path.join(HERE, "lib"))
 from harness import Files, Memory, Tally, build_crate, run
 
 tally = Tally()
-program = build_crate("apf_life_trials")
+program = build_crate("apf_trials")
 files = Files()
 shim = os.path.join(files.folder.name, "refuse.so")
 subprocess.run(["cc", "-O1", "-shared", "-fPIC", "-o", shim, os.path.join(HERE, "lib", "refuse.c")], check=True)
@@ -49,13 +49,13 @@ AMPLE = (0, ANSWERS + ENDED, b"")
 NOT_OPENED = (3, b"", b"out of memory\n")
 NOT_ENDED = (3, ANSWERS, b"out of memory at the end\n")
 
-tally.check("with ample memory", run(program, ["memory"]), AMPLE)
+tally.check("with ample memory", run(program, ["lives", "memory"]), AMPLE)
 number, runs = 0, []
 while number < 10_000:
     number += 1
     if os.path.exists(marker):
         os.remove(marker)
-    got = run(program, ["memory"], env=dict(os.environ, LD_PRELOAD=shim, APF_REFUSE=str(number), APF_REFUSED=marker))
+    got = run(program, ["lives", "memory"], env=dict(os.environ, LD_PRELOAD=shim, APF_REFUSE=str(number), APF_REFUSED=marker))
     if not os.path.exists(marker):
         break
     # a list that is refused its room at first may find some later
@@ -69,7 +69,7 @@ tally.check("the level is refused at its opening and at its end", (set(places), 
 
 def after(rounds):
     """What a run of this many rounds says, and the memory that it had."""
-    with subprocess.Popen([program, "rounds", str(rounds)], stdout=subprocess.PIPE) as process:
+    with subprocess.Popen([program, "lives", "rounds", str(rounds)], stdout=subprocess.PIPE) as process:
         memory = Memory(process)
         said = process.stdout.read()
     return (process.returncode, said), memory

@@ -14,7 +14,7 @@ from simulation import Run
 from trace import request_of
 
 tally = Tally()
-program = build_crate("apf_stream_trials")
+program = build_crate("apf_trials")
 files = Files()
 # the same draws each time; APF_SEED draws others
 seed = int(os.environ.get("APF_SEED", "2043"))
@@ -32,7 +32,7 @@ DECISIONS = {
 
 def ran(config, patience, charge, content, *more):
     """What the program prints of the trace, its status, the most memory that it had, in KiB, and its seconds of a processor."""
-    words = [program, files("config", json.dumps(config)), str(patience), charge, *more]
+    words = [program, "streams", files("config", json.dumps(config)), str(patience), charge, *more]
     with subprocess.Popen(words, stdin=subprocess.PIPE, stdout=subprocess.PIPE) as process:
         memory = Memory(process)
         try:

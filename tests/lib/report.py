@@ -12,7 +12,7 @@ KINDS = ("form", "legal", "waiting", "fair", "balanced", "agreement", "told", "c
 
 
 class Report:
-    """The output of `apf_level_trials stress`, a line for each fact."""
+    """The output of `apf_trials levels stress`, a line for each fact."""
 
     def __init__(self, text):
         self.config, self.most, self.read, self.stats, self.counts, self.word, self.plain = [], 0, [], [], [], [], ""

@@ -18,10 +18,17 @@
 //! - `closing`, `cancelling`: eight Stations close a level, and cancel a request.
 //! - `sleeping`: who sleeps is woken, and two by one dispatch. `admitting`: many sleep and wake each other.
 //! - `losing`: who loses its decision to a cancel dispatches.
+//!
+//! Beside it:
+//!
+//! - `life`: a level for a server's whole life. `stats`: the statistics, which a level publishes.
+//! - `asserts`: assertions as calls.
 #![tactic(auto)]
 
 #[cfg(test)]
 mod admitting;
+#[cfg(test)]
+mod asserts;
 #[cfg(test)]
 mod cancelling;
 #[cfg(test)]
@@ -34,6 +41,8 @@ mod crowds;
 mod debts;
 #[cfg(test)]
 mod endings;
+#[cfg(test)]
+mod life;
 #[cfg(test)]
 mod limits;
 #[cfg(test)]
@@ -50,6 +59,8 @@ mod scenes;
 mod scripts;
 #[cfg(test)]
 mod sleeping;
+#[cfg(test)]
+mod stats;
 #[cfg(test)]
 mod strikes;
 #[cfg(test)]

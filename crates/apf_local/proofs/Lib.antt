@@ -11,3 +11,4 @@ pub mod Logging
 pub mod Giving
 pub mod Charged
 pub mod Seats
+pub mod Renewing

@@ -1,5 +1,5 @@
 -- Logs whose settled requests held their seats, from call to call.
-use Rattle.std.proofs.Common.{◌≡◌, ◌≢◌, ◌⊎◌, inl, inr, ℕ, zero, suc, List, [], ◌∷◌, ◌++◌, set, Option, Some, None, refl, sym, ap, ◌∙◌, subst}
+use Rattle.std.proofs.Common.{◌≡◌, ◌≢◌, ◌⊎◌, inl, inr, ℕ, zero, suc, Bool, true, false, List, [], ◌∷◌, ◌++◌, set, Option, Some, None, refl, sym, ap, ◌∙◌, subst}
 use Rattle.std.specs.Prelude.{map, slice_get, All}
 use Rattle.std.proofs.lemmas.Bool.{cases_eq}
 use Rattle.std.proofs.lemmas.Option.{slice_get-get_or, slice_get_within}
@@ -24,7 +24,7 @@ use Rattle.apf_local.specs.declared.answer.Answer.TheVariants as answers
 use Rattle.apf_local.specs.declared.answer.Ask.{Ask}
 use Rattle.apf_local.specs.declared.answer.Place.{Place}
 use Rattle.apf_local.specs.declared.answer.Place.TheVariants as places
-use Rattle.apf_local.specs.Levels.{LocalView, SameLocal, SlotMoves, Finishes, IsFinish, IsArrival, GoesOn}
+use Rattle.apf_local.specs.Levels.{LocalView, SameLocal, SlotMoves, Finishes, IsFinish, IsArrival, IsRenewal, IsArrivalOfRenewed, GoesOn}
 use Rattle.apf_local.specs.Seats.{IsExecuting, HeldIn, AreSeatedIn, KeepsSeats, HeldSlot}
 use Rattle.apf_local.specs.declared.answer.Settlement.{Settlement}
 use Rattle.apf_local.specs.Owners.{OwnerView, SameOwner, SettlesTold}
@@ -126,7 +126,7 @@ module _ (l l' : LocalView) (same : SameLocal l l') where
   pub stays_seated : SlotsStay l l' → KeepsSeats l l'
   stays_seated stay = keeps (λ v kept r e. inr (executes_still stay r e))
 
-get_else : {A : Type 0} (xs : List A) (i j : ℕ) (x : A) → j ≢ i → slice_get (set xs i x) j ≡ slice_get xs j
+pub get_else : {A : Type 0} (xs : List A) (i j : ℕ) (x : A) → j ≢ i → slice_get (set xs i x) j ≡ slice_get xs j
 get_else [] i j x ne = refl
 get_else (y ∷ ys) zero zero x ne = absurd (ne refl)
 get_else (y ∷ ys) zero (suc j) x ne = refl
@@ -135,6 +135,16 @@ get_else (y ∷ ys) (suc i) (suc j) x ne = get_else ys i j x (λ e. ne (ap suc e
 
 some_is : {A : Type 0} (a b : A) → ◌≡◌ {A = Option A} (Some a) (Some b) → a ≡ b
 some_is a b is = cc
+
+-- a slot whose request did not execute is free
+pub left_seated : (l : LocalView) (slot : ℕ) (p : Place) → SameLocal l (record l { places = set l.places slot places.Free }) → slice_get l.places slot ≡ Some p → p ≢ places.Runs → KeepsSeats l (record l { places = set l.places slot places.Free })
+left_seated l slot p same here other = keeps l (record l { places = set l.places slot places.Free }) same (λ v kept r e. inr (record {
+  slot = e.slot;
+  token = e.token;
+  runs = get_else l.places slot e.slot places.Free (λ is. other (some_is p places.Runs (sym here ∙ (ap (slice_get l.places) (sym is) ∙ e.runs)))) ∙ e.runs;
+  holds = e.holds;
+  is = e.is;
+}))
 
 -- another slot's request executes as before
 module _ (l l' : LocalView) (slot : ℕ) (Does : Place → PassToken → Place → PassToken → Type 0) (moves : SlotMoves slot l l' Does) where
@@ -180,6 +190,22 @@ arrival_seated slot ask hand l l' (answers.Over d) event same moves = moves_seat
 arrival_seated slot ask hand l l' answers.Busy event same moves = moves_seated l l' slot _ moves same (free_runs moves.place moves.does.was_free)
 arrival_seated slot ask hand l l' answers.Waits event same moves = moves_seated l l' slot _ moves same (free_runs moves.place moves.does.was_free)
 arrival_seated slot ask hand l l' answers.Released event same moves = moves_seated l l' slot _ moves same (free_runs moves.place moves.does.was_free)
+
+fresh_runs : (p : Place) (ask : Ask) → p ≡ places.Fresh ask → p ≢ places.Runs
+fresh_runs p ask is runs = let z : places.Fresh ask ≡ places.Runs = sym is ∙ runs in cc
+
+pub renewal_seated : (slot : ℕ) (ask : Ask) (l l' : LocalView) (done : Bool) → SameLocal l l' → IsRenewal slot ask l done l' → KeepsSeats l l'
+renewal_seated slot ask l l' true same moves = moves_seated l l' slot _ moves same (free_runs moves.place moves.does.was_free)
+renewal_seated slot ask l l' false same is = same_seated l l' is.0
+
+pub renewed_seated : (slot : ℕ) (l l' : LocalView) (answer : Answer) (event : Option LifeEvent) → SameLocal l l' → IsArrivalOfRenewed slot l answer event l' → KeepsSeats l l'
+renewed_seated slot l l' answers.Wrong event same is = same_seated l l' is.0
+renewed_seated slot l l' answers.Spent event same moves = moves_seated l l' slot _ moves same (fresh_runs moves.place moves.does.ask moves.does.was_fresh)
+renewed_seated slot l l' answers.Run event same moves = moves_seated l l' slot _ moves same (fresh_runs moves.place moves.does.ask moves.does.was_fresh)
+renewed_seated slot l l' (answers.Over d) event same moves = moves_seated l l' slot _ moves same (fresh_runs moves.place moves.does.ask moves.does.was_fresh)
+renewed_seated slot l l' answers.Busy event same moves = moves_seated l l' slot _ moves same (fresh_runs moves.place moves.does.ask moves.does.was_fresh)
+renewed_seated slot l l' answers.Waits event same moves = moves_seated l l' slot _ moves same (fresh_runs moves.place moves.does.ask moves.does.was_fresh)
+renewed_seated slot l l' answers.Released event same moves = moves_seated l l' slot _ moves same (fresh_runs moves.place moves.does.ask moves.does.was_fresh)
 
 pub try_seated : (slot : ℕ) (ask : Ask) (l l' : LocalView) (answer : Answer) → SameLocal l l' → IsTry slot ask l answer l' → KeepsSeats l l'
 try_seated slot ask l l' answers.Wrong same is = same_seated l l' is.0

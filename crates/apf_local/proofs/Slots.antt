@@ -14,7 +14,7 @@ use Rattle.apf_line.specs.declared.attempts.Tried.TheVariants as tries
 use Rattle.apf_local.specs.Worlds.{HasComeIn}
 use Rattle.apf_local.specs.Owners.{OwnerView, SameOwner, Stay, IsBegun}
 use Rattle.apf_local.specs.Tries.{answer_of_try, place_of_try, Tries, IsTry}
-use Rattle.apf_local.specs.Levels.{LocalView, IsLocal, IsAt, IsAdmitted, place_of, answer_of, SlotMoves, Arrives, IsArrival}
+use Rattle.apf_local.specs.Levels.{LocalView, IsLocal, IsAt, IsAdmitted, place_of, answer_of, SlotMoves, Arrives, IsArrival, ArrivesRenewed, IsArrivalOfRenewed}
 use Rattle.apf_book.specs.declared.life_event.LifeEvent.{LifeEvent}
 use Rattle.apf_local.proofs.Knowing.{book_then}
 use Rattle.apf_local.proofs.Worlds.{came_more}
@@ -39,6 +39,29 @@ set_each Is (q ∷ ps) (u ∷ ts) zero p' t' at new zero p t at_p at_t = subst (
 set_each Is (q ∷ ps) (u ∷ ts) zero p' t' at new (suc k) p t at_p at_t = at (suc k) p t at_p at_t
 set_each Is (q ∷ ps) (u ∷ ts) (suc i) p' t' at new zero p t at_p at_t = at zero p t at_p at_t
 set_each Is (q ∷ ps) (u ∷ ts) (suc i) p' t' at new (suc k) p t at_p at_t = set_each Is ps ts i p' t' (λ n. at (suc n)) new k p t at_p at_t
+
+-- the same, where a place alone changed
+set_place : (Is : Place → PassToken → Type 0) (ps : List Place) (ts : List PassToken) (i : ℕ) (p' : Place) → ((k : ℕ) (p : Place) (t : PassToken) → slice_get ps k ≡ Some p → slice_get ts k ≡ Some t → Is p t) → ((t : PassToken) → slice_get ts i ≡ Some t → Is p' t)
+    → (k : ℕ) (p : Place) (t : PassToken) → slice_get (set ps i p') k ≡ Some p → slice_get ts k ≡ Some t → Is p t
+set_place Is [] ts i p' at new k p t at_p at_t = absurd (none_is p at_p)
+set_place Is (q ∷ ps) [] i p' at new k p t at_p at_t = absurd (none_is t at_t)
+set_place Is (q ∷ ps) (u ∷ ts) zero p' at new zero p t at_p at_t = subst (λ (x : Place). Is x t) (some_is p' p at_p) (new t at_t)
+set_place Is (q ∷ ps) (u ∷ ts) zero p' at new (suc k) p t at_p at_t = at (suc k) p t at_p at_t
+set_place Is (q ∷ ps) (u ∷ ts) (suc i) p' at new zero p t at_p at_t = at zero p t at_p at_t
+set_place Is (q ∷ ps) (u ∷ ts) (suc i) p' at new (suc k) p t at_p at_t = set_place Is ps ts i p' (λ n. at (suc n)) new k p t at_p at_t
+
+-- the slot's request, which never came, left it
+pub local_left : (l : LocalView) → IsLocal l → (slot : ℕ) (ask : Ask) → slice_get l.places slot ≡ Some (places.Fresh ask) → IsLocal (record l { places = set l.places slot places.Free })
+local_left l is slot ask here = record {
+  deck = is.deck;
+  hand = is.hand;
+  operator = is.operator;
+  count = length-set l.places slot places.Free ∙ is.count;
+  at = set_place IsAt l.places l.owner.passes slot places.Free is.at (λ t at_t. let fresh = (is.at slot (places.Fresh ask) t here at_t).0 in record { back = inl fresh.fresh; may = inl fresh.fresh });
+  came = λ k t at_p at_t. set_place (λ (p : Place) (x : PassToken). p ≡ places.Waits → HasComeIn l.owner.book x.pass.number) l.places l.owner.passes slot places.Free
+      (λ n p x here there waits. is.came n x (subst (λ (q : Place). slice_get l.places n ≡ Some q) waits here) there) (λ t there waits. absurd (let z : places.Free ≡ places.Waits = waits in cc)) k places.Waits t at_p at_t refl;
+  stopped = is.stopped;
+}
 
 pub owner_then : (a b c : OwnerView) → SameOwner a b → SameOwner b c → SameOwner a c
 owner_then a b c first then = record {
@@ -112,3 +135,8 @@ pub is_arrival : (slot : ℕ) (ask : Ask) (hand : List ℕ) (l : LocalView) (eve
 is_arrival slot ask hand l event l' admitted.Run moves = moves
 is_arrival slot ask hand l event l' (admitted.Over d) moves = moves
 is_arrival slot ask hand l event l' admitted.Waits moves = moves
+
+pub is_arrival_of_renewed : (slot : ℕ) (l : LocalView) (event : Option LifeEvent) (l' : LocalView) (a : Admitted) → SlotMoves slot l l' (ArrivesRenewed l.sizes l.owner.book (answer_of a) event l'.owner.book) → IsArrivalOfRenewed slot l (answer_of a) event l'
+is_arrival_of_renewed slot l event l' admitted.Run moves = moves
+is_arrival_of_renewed slot l event l' (admitted.Over d) moves = moves
+is_arrival_of_renewed slot l event l' admitted.Waits moves = moves

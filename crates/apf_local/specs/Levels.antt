@@ -1,6 +1,8 @@
 -- A level as a plain value, as contracts see it, and what its calls answer.
-use Rattle.std.specs.Prelude.{◌≡◌, ◌≢◌, ◌<◌, ◌⊎◌, ℕ, Bool, false, List, length, slice_get, slice_set, Option, Some, None}
+use Rattle.std.specs.Prelude.{◌≡◌, ◌≢◌, ◌<◌, ◌≤◌, ◌⊎◌, ℕ, Bool, true, false, List, length, slice_get, slice_set, Option, Some, None}
+use Rattle.apf_words.specs.Limits.{max_cost}
 use Rattle.apf_words.specs.declared.decision.Decision.TheVariants.{Execute, QueueFull}
+use Rattle.apf_flow.specs.Deal.{hand_of}
 use Rattle.apf_flow.specs.Sizes.{Sizes}
 use Rattle.apf_history.specs.declared.events.Charge.{Charge}
 use Rattle.apf_history.specs.declared.events.Event.{Event}
@@ -34,7 +36,7 @@ use Rattle.apf_local.specs.declared.answer.Settlement.{Settlement}
 use Rattle.apf_local.specs.declared.admitting.Admitted.{Admitted}
 use Rattle.apf_local.specs.declared.admitting.Admitted.TheVariants as admitted
 use Rattle.apf_local.specs.Worlds.{HasComeIn}
-use Rattle.apf_local.specs.Owners.{OwnerView, SameOwner, GivesBack, IsBegun, IsSlotOf, IsUsedUp}
+use Rattle.apf_local.specs.Owners.{OwnerView, SameOwner, GivesBack, IsBegun, IsFresh, Renews, IsSlotOf, IsUsedUp}
 
 pub record LocalView : Type 0 where
   pub owner : OwnerView
@@ -48,6 +50,7 @@ id_of l = record { gate = l.owner.gate; sizes = l.sizes; queue_limit = l.owner.b
 -- the Pass is where the slot's request is
 abbrev pub IsAt : Place → PassToken → Type 0
 IsAt places.Free token = IsDone token
+IsAt (places.Fresh ask) token = IsFresh ask token × (1 ≤ ask.cost) × (ask.cost ≤ max_cost)
 IsAt places.Waits token = IsInLine token
 IsAt places.Runs token = IsRunning token
 
@@ -135,8 +138,16 @@ pub record Admits (ask : Ask) (hand : List ℕ) (b : LifeBookView) (answer : Adm
   pub came : answer ≡ admitted.Waits → HasComeIn b' after.pass.number
   pub history : (v : LifeView) → IsLifeKept v b → LogsOne v after.pass.number hand ask.cost answer event b'
 
--- the slot's request arrived in the line
+-- the slot's request, which was there, arrived
 pub record Stands (ask : Ask) (hand : List ℕ) (b : LifeBookView) (answer : Admitted) (event : Option LifeEvent) (b' : LifeBookView) (before after : PassToken) : Type 0 where
+  pub number : after.pass.number ≡ before.pass.number
+  pub is : IsAdmitted answer after
+  pub tried : HasTried ask answer after
+  pub came : answer ≡ admitted.Waits → HasComeIn b' after.pass.number
+  pub history : (v : LifeView) → IsLifeKept v b → LogsOne v after.pass.number hand ask.cost answer event b'
+
+-- the slot's request arrived in the line
+pub record Enqueues (ask : Ask) (hand : List ℕ) (b : LifeBookView) (answer : Admitted) (event : Option LifeEvent) (b' : LifeBookView) (before after : PassToken) : Type 0 where
   pub number : after.pass.number ≡ before.pass.number
   pub is : IsAdmitted answer after
   pub came : answer ≡ admitted.Waits → HasComeIn b' after.pass.number
@@ -168,6 +179,24 @@ pub record Arrives (ask : Ask) (hand : List ℕ) (b : LifeBookView) (answer : An
   pub tried : HasTried ask admitted after
   pub history : (v : LifeView) → IsLifeKept v b → LogsIn v after.pass.number hand ask.cost admitted event b'
 
+-- a free slot went on to its next request, which asks for this and did not arrive yet
+pub record BecomesFresh (ask : Ask) (place : Place) (before : PassToken) (place' : Place) (after : PassToken) : Type 0 where
+  pub was_free : place ≡ places.Free
+  pub place_is : place' ≡ places.Fresh ask
+  pub renews : Renews ask before after
+
+-- the request of a slot arrived, which was there and asked for this
+pub record ArrivesRenewed (sizes : Sizes) (b : LifeBookView) (answer : Answer) (event : Option LifeEvent) (b' : LifeBookView) (place : Place) (before : PassToken) (place' : Place) (after : PassToken) : Type 0 where
+  pub ask : Ask
+  pub was_fresh : place ≡ places.Fresh ask
+  pub number : after.pass.number ≡ before.pass.number
+  pub admitted : Admitted
+  pub answer_is : answer ≡ answer_of admitted
+  pub place_is : place' ≡ place_of admitted
+  pub is : IsAdmitted admitted after
+  pub tried : HasTried ask admitted after
+  pub history : (v : LifeView) → IsLifeKept v b → LogsIn v after.pass.number (hand_of sizes ask.hash) ask.cost admitted event b'
+
 -- a request that executed gave its seats back by one step, and its slot is free
 pub record Finishes (place : Place) (before : PassToken) (place' : Place) (after : PassToken) : Type 0 where
   pub ran : place ≡ places.Runs
@@ -180,6 +209,21 @@ abbrev pub IsArrival : ℕ → Ask → List ℕ → LocalView → Answer → Opt
 IsArrival slot ask hand l answers.Wrong event l' = (l' ≡ l) × (event ≡ None) × (slice_get l.places slot ≢ Some places.Free)
 IsArrival slot ask hand l answers.Spent event l' = (l' ≡ l) × (event ≡ None) × (slice_get l.places slot ≡ Some places.Free) × IsSlotOf l.owner.passes slot (IsUsedUp l.owner.gate ask.width)
 IsArrival slot ask hand l answer event l' = SlotMoves slot l l' (Arrives ask hand l.owner.book answer event l'.owner.book)
+
+-- the slot went on to its next request; or it is not free, or its numbers are used up, and nothing was done
+abbrev pub IsRenewal : ℕ → Ask → LocalView → Bool → LocalView → Type 0
+IsRenewal slot ask l true l' = SlotMoves slot l l' (BecomesFresh ask)
+IsRenewal slot ask l false l' = (l' ≡ l) × ((slice_get l.places slot ≢ Some places.Free) ⊎ IsSlotOf l.owner.passes slot (IsUsedUp l.owner.gate ask.width))
+
+-- the place of a request that did not arrive yet
+abbrev pub IsFreshPlace : Option Place → Type 0
+IsFreshPlace (Some (places.Fresh ask)) = Unit {0}
+IsFreshPlace _ = ⊥
+
+-- the slot's request arrived; or none is there that did not, and nothing was done
+abbrev pub IsArrivalOfRenewed : ℕ → LocalView → Answer → Option LifeEvent → LocalView → Type 0
+IsArrivalOfRenewed slot l answers.Wrong event l' = (l' ≡ l) × (event ≡ None) × (¬ IsFreshPlace (slice_get l.places slot))
+IsArrivalOfRenewed slot l answer event l' = SlotMoves slot l l' (ArrivesRenewed l.sizes l.owner.book answer event l'.owner.book)
 
 -- its seats went back; or its request does not execute, and nothing was done
 abbrev pub IsFinish : ℕ → LocalView → Answer → LocalView → Type 0

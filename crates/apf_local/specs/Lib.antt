@@ -4,3 +4,4 @@ pub mod Levels
 pub mod Openings
 pub mod Tries
 pub mod Seats
+pub mod Batches

@@ -96,6 +96,30 @@ IsBegun ask (tries.Over decision waiting) token = IsDone token × (told_own toke
 IsBegun ask tries.Blocked token = (token.pass.state ≡ states.Fresh) × (token.pass.knows.shape.response ≡ Queue) × (asked_in token.pass.knows.trace token.pass.number ≡ Some (record { hash = ask.hash; cost = ask.cost })) × FoundNoSeats token
 IsBegun ask tries.Raced token = ⊥
 
+-- the slot's request is there and asked for this, and did not arrive yet
+pub record IsFresh (ask : Ask) (token : PassToken) : Type 0 where
+  pub fresh : token.pass.state ≡ states.Fresh
+  pub asked : asked_in token.pass.knows.trace token.pass.number ≡ Some (record { hash = ask.hash; cost = ask.cost })
+
+-- the slot went on to its next request, which asks for this
+pub record Renews (ask : Ask) (before after : PassToken) : Type 0 where
+  pub number : after.pass.number ≡ next_of before.pass.number ask.width
+  pub is : IsFresh ask after
+
+-- the same request did not arrive yet
+pub record StaysFresh (ask : Ask) (before after : PassToken) : Type 0 where
+  pub number : after.pass.number ≡ before.pass.number
+  pub is : IsFresh ask after
+
+-- the slot's request knows of all steps that the Desk knows of
+abbrev pub HasHeard : ℕ → OwnerView → Type 0
+HasHeard slot o = IsSlotOf o.passes slot (λ (t : PassToken). t.pass.knows.trace ≡ o.book.desk.desk.knows.trace)
+
+-- the slot's request tried to take its seats
+pub record Comes (ask : Ask) (took : Tried) (before after : PassToken) : Type 0 where
+  pub number : after.pass.number ≡ before.pass.number
+  pub is : IsBegun ask took after
+
 -- the slot was given to as many requests of this width as it can be
 abbrev pub IsUsedUp : GateId → ℕ → PassToken → Type 0
 IsUsedUp gate width token = length gate.shape.widths ≤ next_of token.pass.number width

@@ -5,9 +5,9 @@ ghost use Rattle.apf_words.specs.Limits.{max_width, max_cost};
 ghost use Rattle.apf_flow.specs.Deal.{hand_of};
 ghost use Rattle.apf_book.specs.Life.{sizes_of};
 ghost use Rattle.apf_line.specs.Tokens.{IsDone};
-ghost use Rattle.apf_local.specs.Owners.{SameOwner, Moves, IsSlotOf, IsUsedUp, IsBegun};
+ghost use Rattle.apf_local.specs.Owners.{SameOwner, Moves, IsSlotOf, IsUsedUp, IsBegun, IsFresh, HasHeard};
 ghost use Rattle.apf_line.specs.declared.attempts.Tried.TheVariants as tries;
-ghost use Rattle.apf_local.specs.Levels.{Admits, Stands, answer_of, place_of};
+ghost use Rattle.apf_local.specs.Levels.{Admits, Stands, Enqueues, answer_of, place_of};
 
 use crate::answer::{Answer, Ask, Place};
 use crate::owner::Owner;
@@ -73,10 +73,33 @@ pub fn admit(
     ensures operators { owner.new.stations ≡ owner.old.stations }
     ensures admits { IfSome result (λ a. Moves slot owner.old.passes owner.new.passes (Admits ask (hand_of dealer.now ask.hash) owner.old.book a.0 a.1 owner.new.book)) }
 {
-    match owner.begin(slot, ask)? {
-        Tried::Run => Some((Admitted::Run, None)),
-        Tried::Over(decision, _waiting) => Some((Admitted::Over(decision), None)),
-        Tried::Blocked => Some(enqueue(owner, dealer, slot, ask)),
+    if !owner.renew(slot, ask) {
+        return None;
+    }
+    Some(come(owner, dealer, slot, ask))
+}
+
+/// The slot's request arrives, which is there and heard what the Desk knows.
+pub fn come(
+    owner: &mut Owner,
+    dealer: &Dealer,
+    slot: usize,
+    ask: Ask,
+) -> (Admitted, Option<LifeEvent>)
+    requires is_slot { slot < length owner.old.passes }
+    requires fresh { IsSlotOf owner.old.passes slot (IsFresh ask) }
+    requires heard { HasHeard slot owner.old }
+    requires dealt { dealer.now ≡ sizes_of owner.old.book.queues }
+    requires some_cost { 1 ≤ ask.cost }
+    requires low_cost { ask.cost ≤ max_cost }
+    ensures same { SameOwner owner.old owner.new }
+    ensures operators { owner.new.stations ≡ owner.old.stations }
+    ensures stands { Moves slot owner.old.passes owner.new.passes (Stands ask (hand_of dealer.now ask.hash) owner.old.book result.0 result.1 owner.new.book) }
+{
+    match owner.take_seats(slot, ask) {
+        Tried::Run => (Admitted::Run, None),
+        Tried::Over(decision, _waiting) => (Admitted::Over(decision), None),
+        Tried::Blocked => enqueue(owner, dealer, slot, ask),
         Tried::Raced => unreachable!(),
     }
 }
@@ -95,7 +118,7 @@ fn enqueue(
     requires low_cost { ask.cost ≤ max_cost }
     ensures same { SameOwner owner.old owner.new }
     ensures operators { owner.new.stations ≡ owner.old.stations }
-    ensures stands { Moves slot owner.old.passes owner.new.passes (Stands ask (hand_of dealer.now ask.hash) owner.old.book result.0 result.1 owner.new.book) }
+    ensures stands { Moves slot owner.old.passes owner.new.passes (Enqueues ask (hand_of dealer.now ask.hash) owner.old.book result.0 result.1 owner.new.book) }
 {
     let hand = dealer.deal(ask.hash);
     let ticket = owner.ticket(slot);

@@ -32,6 +32,8 @@ pub struct Settlement {
 pub enum Place {
     /// The slot is free: its request is over, or none came yet.
     Free,
+    /// Its next request is there, and asks for this. It did not arrive yet.
+    Fresh(Ask),
     /// It waits in a queue.
     Waits,
     /// It executes.

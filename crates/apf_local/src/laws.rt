@@ -1,6 +1,6 @@
 //! What is true of every call of a level.
 
-ghost use Rattle.std.specs.Prelude.{◌≡◌, ℕ, List, Option, All};
+ghost use Rattle.std.specs.Prelude.{◌≡◌, ℕ, Bool, List, Option, All};
 ghost use Rattle.apf_history.specs.declared.events.LogEntry.{LogEntry};
 ghost use Rattle.apf_book.specs.declared.life_event.LifeEvent.{LifeEvent};
 ghost use Rattle.apf_line.specs.Seats.{AreSeated};
@@ -9,7 +9,7 @@ ghost use Rattle.apf_local.specs.declared.answer.Answer.TheVariants.{Released};
 ghost use Rattle.apf_local.specs.declared.answer.Ask.{Ask};
 ghost use Rattle.apf_local.specs.declared.answer.Place.{Place};
 ghost use Rattle.apf_local.specs.declared.answer.Place.TheVariants.{Free};
-ghost use Rattle.apf_local.specs.Levels.{LocalView, SameLocal, IsArrival, IsFinish};
+ghost use Rattle.apf_local.specs.Levels.{LocalView, SameLocal, IsArrival, IsRenewal, IsArrivalOfRenewed, IsFinish};
 ghost use Rattle.apf_local.specs.Seats.{AreSeatedIn, HeldSlot, KeepsSeats};
 ghost use Rattle.apf_local.specs.Tries.{IsTry, IsReading, SlotsStay};
 
@@ -23,6 +23,9 @@ ghost use Rattle.apf_local.specs.Tries.{IsTry, IsReading, SlotsStay};
 pub fn every_call_keeps_seats()
     ensures arrives { (slot : ℕ) (ask : Ask) (hand : List ℕ) (l l' : LocalView) (answer : Answer) (event : Option LifeEvent)
         → SameLocal l l' → IsArrival slot ask hand l answer event l' → KeepsSeats l l' }
+    ensures renews { (slot : ℕ) (ask : Ask) (l l' : LocalView) (done : Bool) → SameLocal l l' → IsRenewal slot ask l done l' → KeepsSeats l l' }
+    ensures arrives_renewed { (slot : ℕ) (l l' : LocalView) (answer : Answer) (event : Option LifeEvent)
+        → SameLocal l l' → IsArrivalOfRenewed slot l answer event l' → KeepsSeats l l' }
     ensures tries { (slot : ℕ) (ask : Ask) (l l' : LocalView) (answer : Answer) → SameLocal l l' → IsTry slot ask l answer l' → KeepsSeats l l' }
     ensures reads { (slot : ℕ) (l l' : LocalView) (place : Place) → SameLocal l l' → IsReading slot l place l' → KeepsSeats l l' }
     ensures finishes { (slot : ℕ) (l l' : LocalView) (answer : Answer)

@@ -14,13 +14,13 @@ ghost use Rattle.apf_line.specs.Reports.{Ended, EndedAs, EndedBy};
 ghost use Rattle.apf_local.specs.declared.answer.Place.TheVariants as places;
 ghost use Rattle.apf_words.specs.declared.decision.Decision.{Decision};
 ghost use Rattle.apf_local.specs.Worlds.{IsDecidedIn};
-ghost use Rattle.apf_local.specs.Levels.{id_of, SameLocal, GoesOn, EndsFrom, IsArrival, IsFinish, SettlesSlot, SpendsSlot};
+ghost use Rattle.apf_local.specs.Levels.{id_of, SameLocal, GoesOn, EndsFrom, IsArrival, IsRenewal, IsArrivalOfRenewed, IsFinish, SettlesSlot, SpendsSlot};
 ghost use Rattle.apf_local.specs.Owners.{IsSlotOf, Steps, Sets};
 ghost use Rattle.apf_local.specs.Seats.{AreSeatedIn, EndsSeated, HeldSlot, KeepsSeats};
 ghost use Rattle.apf_local.specs.Tries.{IsTry, IsReading, SlotsStay};
 ghost use Rattle.apf_local.specs.Openings.{IsOpened, CanOpen, IsOpenFault};
 
-use crate::admitting::admit;
+use crate::admitting::{admit, come};
 use crate::answer::{Answer, Ask, Place, Settlement};
 use crate::fault::OpenFault;
 use crate::owner::Owner;
@@ -104,6 +104,13 @@ impl LocalLevel {
         self.places.len()
     }
 
+    /// Each slot has its Pass. It makes no step: the contract is the law.
+    pub fn each_slot_has_a_pass(&self)
+        ensures { length self.now.places ≡ length self.now.owner.passes }
+    {
+        let _ = &self.owner;
+    }
+
     /// Its queues are those that its dealer deals. It makes no step: the contract is the law.
     pub fn has_queues(&self)
         ensures { queue_count self.now.owner.book.queues.queues ≡ self.now.sizes.deck }
@@ -135,11 +142,60 @@ impl LocalLevel {
         self.owner.has_a_history();
         match self.places[slot] {
             Place::Free => {}
-            Place::Waits | Place::Runs => return (Answer::Wrong, None),
+            Place::Fresh(_) | Place::Waits | Place::Runs => return (Answer::Wrong, None),
         }
         let Some((admitted, event)) = admit(&mut self.owner, &self.dealer, slot, ask) else {
             return (Answer::Spent, None);
         };
+        self.places[slot] = admitted.place();
+        self.owner.dispatch();
+        (admitted.answer(), event)
+    }
+
+    /// A free slot goes on to its next request, which asks for this. It is there from then on: it may be cancelled, and it
+    /// arrives by `arrive_renewed`. Then requests that wait are dispatched. Answers whether it is there: no, if the slot is not
+    /// free or its numbers are used up, and then nothing was done.
+    pub fn renew(&mut self, slot: usize, ask: Ask) -> bool
+        requires is_slot { slot < length self.old.places }
+        requires some_width { 1 ≤ ask.width }
+        requires narrow { ask.width ≤ max_width }
+        requires some_cost { 1 ≤ ask.cost }
+        requires low_cost { ask.cost ≤ max_cost }
+        ensures same { SameLocal self.old self.new }
+        ensures operators { self.new.owner.stations ≡ self.old.owner.stations }
+        ensures renews { IsRenewal slot ask self.old result self.new }
+        ensures history { (v : LifeView) → IsLifeKept v self.old.owner.book → GoesOn v self.new.owner.book }
+    {
+        every_level_has_histories();
+        self.owner.has_a_history();
+        match self.places[slot] {
+            Place::Free => {}
+            Place::Fresh(_) | Place::Waits | Place::Runs => return false,
+        }
+        if !self.owner.renew(slot, ask) {
+            return false;
+        }
+        self.places[slot] = Place::Fresh(ask);
+        self.owner.dispatch();
+        true
+    }
+
+    /// The request of a slot arrives, which is there since `renew`: as `arrive` otherwise. `Wrong` of a slot whose request
+    /// came before, or that has none.
+    pub fn arrive_renewed(&mut self, slot: usize) -> (Answer, Option<LifeEvent>)
+        requires is_slot { slot < length self.old.places }
+        ensures same { SameLocal self.old self.new }
+        ensures operators { self.new.owner.stations ≡ self.old.owner.stations }
+        ensures arrives { IsArrivalOfRenewed slot self.old result.0 result.1 self.new }
+    {
+        every_level_has_histories();
+        self.owner.has_a_history();
+        let ask = match self.places[slot] {
+            Place::Fresh(ask) => ask,
+            Place::Free | Place::Waits | Place::Runs => return (Answer::Wrong, None),
+        };
+        self.owner.hear(slot, ask);
+        let (admitted, event) = come(&mut self.owner, &self.dealer, slot, ask);
         self.places[slot] = admitted.place();
         self.owner.dispatch();
         (admitted.answer(), event)
@@ -160,7 +216,7 @@ impl LocalLevel {
         self.owner.has_a_history();
         match self.places[slot] {
             Place::Runs => {}
-            Place::Free | Place::Waits => return Answer::Wrong,
+            Place::Free | Place::Fresh(_) | Place::Waits => return Answer::Wrong,
         }
         self.owner.give_back(slot);
         self.places[slot] = Place::Free;
@@ -194,7 +250,7 @@ impl LocalLevel {
         self.owner.has_a_history();
         match self.places[slot] {
             Place::Runs => {}
-            Place::Free | Place::Waits => return (Answer::Wrong, None),
+            Place::Free | Place::Fresh(_) | Place::Waits => return (Answer::Wrong, None),
         }
         let amount = seat_time(self.owner.width(slot), micros);
         let settled = self.owner.settle(slot, amount);
@@ -222,7 +278,7 @@ impl LocalLevel {
         self.owner.has_a_history();
         match self.places[slot] {
             Place::Runs => {}
-            Place::Free | Place::Waits => return false,
+            Place::Free | Place::Fresh(_) | Place::Waits => return false,
         }
         let amount = seat_time(self.owner.width(slot), micros);
         self.owner.spend(slot, amount);
@@ -246,7 +302,7 @@ impl LocalLevel {
         self.owner.has_a_history();
         match self.places[slot] {
             Place::Free => {}
-            Place::Waits | Place::Runs => return Answer::Wrong,
+            Place::Fresh(_) | Place::Waits | Place::Runs => return Answer::Wrong,
         }
         let Some(tried) = self.owner.begin(slot, ask) else {
             return Answer::Spent;
@@ -271,6 +327,7 @@ impl LocalLevel {
         match self.places[slot] {
             Place::Waits => {}
             Place::Free => return Place::Free,
+            Place::Fresh(ask) => return Place::Fresh(ask),
             Place::Runs => return Place::Runs,
         }
         let place = read_place(&mut self.owner, slot);
@@ -451,7 +508,7 @@ impl LocalLevel {
         ensures seats { KeepsSeats self.old self.new }
     {
         match self.places[slot] {
-            Place::Free | Place::Runs => {}
+            Place::Free | Place::Fresh(_) | Place::Runs => {}
             Place::Waits => self.stop_waiting(slot),
         }
     }
@@ -468,11 +525,24 @@ impl LocalLevel {
         self.has_a_history();
         match self.places[slot] {
             Place::Free => {}
+            Place::Fresh(ask) => self.leave(slot, ask),
             Place::Waits => self.stop_waiting(slot),
             Place::Runs => {
                 self.finish(slot);
             }
         }
+    }
+
+    // The slot's request never came, and leaves it.
+    fn leave(&mut self, slot: usize, ask: Ask)
+        requires fresh { slice_get self.old.places slot ≡ Some (places.Fresh ask) }
+        ensures same { SameLocal self.old self.new }
+        ensures frees { self.new.places ≡ slice_set self.old.places slot places.Free }
+        ensures history { (v : LifeView) → IsLifeKept v self.old.owner.book → GoesOn v self.new.owner.book }
+        ensures seats { KeepsSeats self.old self.new }
+    {
+        let _ = ask;
+        self.places[slot] = Place::Free;
     }
 
     // The slot's request, which waits, is cancelled. Where it executes already it gives its seats back.

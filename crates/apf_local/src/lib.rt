@@ -3,6 +3,7 @@
 //!
 //! - `level`: the level, by its slots.
 //! - `answer`: what a request asks for, what the calls of the level answer, and what a settlement changed. `fault`: why it is not opened.
+//! - `batch`: a level all of whose requests are known beforehand.
 //! - `admitting`: the arrival of a request. `reading`: what one that waits reads.
 //! - `owner`: a gate, its book and all of its tokens in one hand, so that no exchange is ever lost.
 //! - `laws`: what is true of every call.
@@ -10,6 +11,7 @@
 
 mod admitting;
 mod answer;
+mod batch;
 mod fault;
 mod laws;
 mod level;

@@ -1,6 +1,6 @@
 //! A gate, its book and all of its tokens in one hand.
 
-ghost use Rattle.std.specs.Prelude.{ℕ, ◌≡◌, ◌↔◌, ◌≢◌, ◌≤◌, ◌<◌, ◌*◌, ◌^◌, length, slice_get, All, None, IfSome, IfNone, IfOk, IfErr, OnOk, IsTrue};
+ghost use Rattle.std.specs.Prelude.{ℕ, ◌≡◌, ◌↔◌, ◌≢◌, ◌≤◌, ◌<◌, ◌*◌, ◌^◌, length, slice_get, true, false, All, None, IfSome, IfNone, IfOk, IfErr, OnOk, IsTrue};
 ghost use Rattle.apf_words.specs.Level.{Level};
 ghost use Rattle.apf_words.specs.Limits.{max_width, max_cost, max_limit};
 ghost use Rattle.apf_words.specs.declared.decision.Decision.{Decision};
@@ -24,7 +24,7 @@ ghost use Rattle.apf_line.specs.Seats.{HeldSeats};
 ghost use Rattle.apf_line.specs.Stopped.{IsStopped};
 ghost use Rattle.apf_local.specs.Openings.{line_of, IsNewOwner, CanOpen, IsOpenFault, HasQueuesOf};
 ghost use Rattle.apf_local.specs.Worlds.{HasComeIn, IsDecidedIn};
-ghost use Rattle.apf_local.specs.Owners.{SameOwner, Moves, Stay, Begins, IsBlocked, IsUsedUp, Enters, GivesBack, Reads, IsToldOff, Leaves, SettlesTold, StrikesOne, Steps, Sets, IsSlotOf};
+ghost use Rattle.apf_local.specs.Owners.{SameOwner, Moves, Stay, Begins, Renews, Comes, IsFresh, StaysFresh, HasHeard, IsBlocked, IsUsedUp, Enters, GivesBack, Reads, IsToldOff, Leaves, SettlesTold, StrikesOne, Steps, Sets, IsSlotOf};
 
 use crate::answer::{Ask, Settlement};
 use crate::fault::OpenFault;
@@ -227,17 +227,18 @@ impl Owner {
         end_level(alloc, gate, closing, passes, stations)
     }
 
-    /// The slot goes on to its next request, which takes its seats if the level is open, nobody waits and they fit. `None`
-    /// if the slot's numbers are used up: then nothing was done.
-    pub fn begin(&mut self, slot: usize, ask: Ask) -> Option<Tried>
+    /// The slot goes on to its next request, which asks for this. It did not arrive then. Answers whether it did: no, if the
+    /// slot's numbers are used up, and then nothing was done.
+    pub fn renew(&mut self, slot: usize, ask: Ask) -> bool
         requires is_slot { slot < length self.old.passes }
         requires free { IsSlotOf self.old.passes slot IsDone }
         requires some_width { 1 ≤ ask.width }
         requires narrow { ask.width ≤ max_width }
         ensures same { SameOwner self.old self.new }
-        ensures spent { IfNone result (self.new ≡ self.old) }
-        ensures used_up { IfNone result (IsSlotOf self.old.passes slot (IsUsedUp self.old.gate ask.width)) }
-        ensures begins { IfSome result (λ tried. Moves slot self.old.passes self.new.passes (Begins ask tried)) }
+        ensures spent { result ≡ false → self.new ≡ self.old }
+        ensures used_up { result ≡ false → IsSlotOf self.old.passes slot (IsUsedUp self.old.gate ask.width) }
+        ensures renews { result ≡ true → Moves slot self.old.passes self.new.passes (Renews ask) }
+        ensures heard { result ≡ true → HasHeard slot self.new }
         ensures operators { self.new.stations ≡ self.old.stations }
         ensures history { (v : LifeView) → IsLifeKept v self.old.book → IsLifeKept v self.new.book }
     {
@@ -245,10 +246,39 @@ impl Owner {
             .gate
             .renew(&mut self.passes[slot], ask.width, ask.hash, ask.cost)
         {
-            Renew::Spent => return None,
+            Renew::Spent => return false,
             Renew::Began(_decision) => {}
         }
         self.book.hear(&self.gate, &mut self.passes[slot]);
+        true
+    }
+
+    /// The slot's request, which did not arrive, hears what the Desk knows.
+    pub fn hear(&mut self, slot: usize, ask: Ask)
+        requires is_slot { slot < length self.old.passes }
+        requires fresh { IsSlotOf self.old.passes slot (IsFresh ask) }
+        ensures same { SameOwner self.old self.new }
+        ensures hears { Moves slot self.old.passes self.new.passes (StaysFresh ask) }
+        ensures heard { HasHeard slot self.new }
+        ensures operators { self.new.stations ≡ self.old.stations }
+        ensures history { (v : LifeView) → IsLifeKept v self.old.book → IsLifeKept v self.new.book }
+    {
+        let _ = ask;
+        self.book.hear(&self.gate, &mut self.passes[slot]);
+    }
+
+    /// The slot's request, which did not arrive and heard what the Desk knows, takes its seats if the level is open, nobody
+    /// waits and they fit.
+    pub fn take_seats(&mut self, slot: usize, ask: Ask) -> Tried
+        requires is_slot { slot < length self.old.passes }
+        requires fresh { IsSlotOf self.old.passes slot (IsFresh ask) }
+        requires heard { HasHeard slot self.old }
+        ensures same { SameOwner self.old self.new }
+        ensures takes { Moves slot self.old.passes self.new.passes (Comes ask result) }
+        ensures operators { self.new.stations ≡ self.old.stations }
+        ensures history { (v : LifeView) → IsLifeKept v self.old.book → IsLifeKept v self.new.book }
+    {
+        let _ = ask;
         let tried = take(
             &self.gate,
             has_queues(self.response),
@@ -266,7 +296,27 @@ impl Owner {
             unreachable!();
         }
         self.book.hear(&self.gate, &mut self.passes[slot]);
-        Some(tried)
+        tried
+    }
+
+    /// The slot goes on to its next request, which takes its seats if the level is open, nobody waits and they fit. `None`
+    /// if the slot's numbers are used up: then nothing was done.
+    pub fn begin(&mut self, slot: usize, ask: Ask) -> Option<Tried>
+        requires is_slot { slot < length self.old.passes }
+        requires free { IsSlotOf self.old.passes slot IsDone }
+        requires some_width { 1 ≤ ask.width }
+        requires narrow { ask.width ≤ max_width }
+        ensures same { SameOwner self.old self.new }
+        ensures spent { IfNone result (self.new ≡ self.old) }
+        ensures used_up { IfNone result (IsSlotOf self.old.passes slot (IsUsedUp self.old.gate ask.width)) }
+        ensures begins { IfSome result (λ tried. Moves slot self.old.passes self.new.passes (Begins ask tried)) }
+        ensures operators { self.new.stations ≡ self.old.stations }
+        ensures history { (v : LifeView) → IsLifeKept v self.old.book → IsLifeKept v self.new.book }
+    {
+        if !self.renew(slot, ask) {
+            return None;
+        }
+        Some(self.take_seats(slot, ask))
     }
 
     /// The slot's request, which took no seats, arrives in the line, with its hand of queues and what its dispatch is

@@ -18,6 +18,7 @@ use Rattle.apf_local.specs.declared.admitting.Admitted.{Admitted}
 use Rattle.apf_local.specs.declared.admitting.Admitted.TheVariants as admitted
 use Rattle.apf_line.specs.declared.attempts.Tried.{Tried}
 use Rattle.apf_line.specs.declared.attempts.Tried.TheVariants as tries
+use Rattle.apf_local.specs.declared.answer.Ask.{Ask}
 use Rattle.apf_local.specs.declared.answer.Answer.{Answer}
 use Rattle.apf_local.specs.declared.answer.Answer.TheVariants.{Run, Over, Busy, Waits, Released, Spent, Wrong}
 use Rattle.apf_local.specs.declared.answer.Place.{Place}
@@ -39,7 +40,7 @@ use Rattle.apf_service.specs.Replies.{told_of_arrival, told_of_attempt, told_of_
 use Rattle.apf_book.specs.Life.{charge_in}
 use Rattle.apf_service.specs.Turns.{Turns, ArrivesAt, TriesAt, FinishesAt, SpendsAt, OperatorDoes, asks, ask_of, charges_after, queues_after}
 use Rattle.apf_service.specs.Counted.{came_by}
-use Rattle.apf_service.proofs.Slots.{held, reads_waiting, moved_slots, was_held, is_inside}
+use Rattle.apf_service.proofs.Slots.{held, reads_waiting, not_fresh, moved_slots, was_held, is_inside}
 use Rattle.apf_service.proofs.Sums.{sum_at, part_at}
 use Rattle.apf_service.proofs.Keeps.{decided_counted}
 
@@ -72,10 +73,11 @@ came_told v r hand cost n (admitted.Over decision) None b' logs = refl
 came_told v r hand cost n admitted.Waits None b' logs = absurd (logs.0 refl)
 
 -- a request that waited is where its decision says
-poll_adds : (place : Place) (t : Tally) (width : ℕ) → 1 ≤ t.waiting → Adds places.Waits place t (after_poll width place t) 0
-poll_adds places.Runs t width some = record { waiting = omega (arith, some); arrived = omega (arith, some) }
-poll_adds places.Free t width some = record { waiting = omega (arith, some); arrived = omega (arith, some) }
-poll_adds places.Waits t width some = record { waiting = omega arith; arrived = omega arith }
+poll_adds : (place : Place) (t : Tally) (width : ℕ) → 1 ≤ t.waiting → ((ask : Ask) → place ≢ places.Fresh ask) → Adds places.Waits place t (after_poll width place t) 0
+poll_adds places.Runs t width some other = record { waiting = omega (arith, some); arrived = omega (arith, some) }
+poll_adds places.Free t width some other = record { waiting = omega (arith, some); arrived = omega (arith, some) }
+poll_adds (places.Fresh ask) t width some other = absurd (other ask refl)
+poll_adds places.Waits t width some other = record { waiting = omega arith; arrived = omega arith }
 
 -- who waits is who is counted as waiting, and this many more ever arrived
 record Grows (s s' : State) (n : ℕ) : Type 0 where
@@ -240,7 +242,7 @@ read_grows : (slot width : ℕ) (old : State) (level : LocalView) (place : Place
 read_grows slot width old level place kept m =
     slot_grows old slot level (Waited place) m kept (after_poll width place old.tally) old.charges old.asked 0
     (subst (λ (p : Place). Adds p m.place' old.tally (after_poll width place old.tally) 0) (sym m.does.waited)
-    (subst (λ (p : Place). Adds places.Waits p old.tally (after_poll width place old.tally) 0) (sym m.does.place_is) (poll_adds place old.tally width (some_wait old slot level (Waited place) m kept m.does.waited))))
+    (subst (λ (p : Place). Adds places.Waits p old.tally (after_poll width place old.tally) 0) (sym m.does.place_is) (poll_adds place old.tally width (some_wait old slot level (Waited place) m kept m.does.waited) (not_fresh place m.before m.after m.does.reads))))
 
 polls_grows : (slot : ℕ) (old new : State) → old.tally.waiting ≡ sum_by waits_in (slots_of old.level) → (slot_in old slot).place ≡ places.Waits → Polls slot old new → Grows old new 0
 polls_grows slot old new kept waits polls = subst (λ (s : State). Grows old s 0) (sym polls.after) (by polls.reads)
@@ -258,6 +260,7 @@ leave_grows slot old new kept leaves = by (slot_in old slot).place refl
     by : (p : Place) → (slot_in old slot).place ≡ p → Grows old new 0
     by places.Waits is = polls_grows slot old new kept is (leaves.0 is)
     by places.Free is = stays (λ waits. let z = sym is ∙ waits in cc)
+    by (places.Fresh ask) is = stays (λ waits. let z = sym is ∙ waits in cc)
     by places.Runs is = stays (λ waits. let z = sym is ∙ waits in cc)
 
 follow_grows : (event : LifeEvent) (old new : State) → old.tally.waiting ≡ sum_by waits_in (slots_of old.level) → Follows event old new → Grows old new 0

@@ -1,5 +1,5 @@
 -- The numbers stay those of the slots, as the request of one slot goes on.
-use Rattle.std.proofs.Common.{◌≡◌, ℕ, ◌+◌, ◌*◌, ◌%◌, ◌^◌, ◌<◌, ◌≤◌, List, length, get_or, set, inl, inr, refl, sym, ap, ◌∙◌, subst, arith}
+use Rattle.std.proofs.Common.{◌≡◌, ◌≢◌, ℕ, ◌+◌, ◌*◌, ◌%◌, ◌^◌, ◌<◌, ◌≤◌, List, length, get_or, set, inl, inr, refl, sym, ap, ◌∙◌, subst, arith}
 use Rattle.std.specs.Prelude.{min, max, if◌then◌else◌, Option}
 use Rattle.std.specs.List.{sum_by}
 use Rattle.std.proofs.lemmas.Bool.{le-leb}
@@ -27,7 +27,7 @@ use Rattle.apf_local.specs.Tries.{Tries, Waited, IsTry, IsReading, SlotsStay, an
 use Rattle.apf_service.specs.declared.tally.Tally.{Tally}
 use Rattle.apf_service.specs.Tallies.{Held, held_by, slots_of, decided_in, arrived_in, counted, started, queued, ended, finished, after_arrival, after_poll, after_finish, waits_in, runs_in, seats_in, rounds_in, IsTallyOf, IsTallied}
 use Rattle.apf_service.specs.Kept.{width_in, no_slot}
-use Rattle.apf_service.proofs.Slots.{held, reads_waiting, moved_slots, was_held, is_inside}
+use Rattle.apf_service.proofs.Slots.{held, reads_waiting, not_fresh, moved_slots, was_held, is_inside}
 use Rattle.apf_service.proofs.Sums.{sum_at, part_at}
 
 -- what one slot's change from one request or place to another does to the numbers
@@ -147,20 +147,21 @@ free_goes r n t same some seats = record {
 
 -- a request that waited is where its decision says
 module _ (r n : ℕ) (t : Tally) (same : n ≡ r) (some : 1 ≤ t.waiting) where
-  poll_goes : (place : Place) → Goes (record { place = places.Waits; number = r }) (record { place = place; number = n }) t (after_poll (coded_width r) place t)
-  poll_goes places.Runs = record {
+  poll_goes : (place : Place) → ((ask : Ask) → place ≢ places.Fresh ask) → Goes (record { place = places.Waits; number = r }) (record { place = place; number = n }) t (after_poll (coded_width r) place t)
+  poll_goes places.Runs other = record {
     waiting = omega (arith, some);
     running = omega arith;
     seats = omega (arith, ap coded_width same);
     arrived = omega (arith, some, ap (λ (x : ℕ). min (round_of x) (2 ^ 46)) same);
   }
-  poll_goes places.Free = record {
+  poll_goes places.Free other = record {
     waiting = omega (arith, some);
     running = omega arith;
     seats = omega arith;
     arrived = omega (arith, some, ap (λ (x : ℕ). min (round_of x) (2 ^ 46)) same);
   }
-  poll_goes places.Waits = record {
+  poll_goes (places.Fresh ask) other = absurd (other ask refl)
+  poll_goes places.Waits other = record {
     waiting = omega arith;
     running = omega arith;
     seats = omega arith;
@@ -281,7 +282,7 @@ module _ (slot : ℕ) (l l' : LocalView) (same : SameLocal l l') (t : Tally) (ke
       let was = was_held slot l l' (Waited place) m in
       let width : width_in (get_or (slots_of l) slot no_slot) ≡ coded_width m.before.pass.number = ap width_in was in
       let some = some_wait slot l t kept (is_inside slot l l' (Waited place) m) (ap (λ (h : Held). h.place) was ∙ does.waited) in
-      let goes = poll_goes m.before.pass.number m.after.pass.number t does.reads.number some place in
+      let goes = poll_goes m.before.pass.number m.after.pass.number t does.reads.number some place (not_fresh place m.before m.after does.reads) in
       tallied_moves slot l l' (Waited place) m same t (after_poll (width_in (get_or (slots_of l) slot no_slot)) place t) kept
       (subst (λ (p : Place). Goes (record { place = p; number = m.before.pass.number }) (held m.place' m.after) t (after_poll (width_in (get_or (slots_of l) slot no_slot)) place t)) (sym does.waited)
       (subst (λ (p : Place). Goes (record { place = places.Waits; number = m.before.pass.number }) (record { place = p; number = m.after.pass.number }) t (after_poll (width_in (get_or (slots_of l) slot no_slot)) place t)) (sym does.place_is)

@@ -1,12 +1,16 @@
 -- What the slots of a level hold, as one of them goes on.
-use Rattle.std.proofs.Common.{◌≡◌, ℕ, zero, suc, ◌<◌, ◌≤◌, List, [], ◌∷◌, length, get_or, set, Option, Some, None, refl, sym, ap, ◌∙◌, arith}
+use Rattle.std.proofs.Common.{◌≡◌, ◌≢◌, ℕ, zero, suc, ◌<◌, ◌≤◌, List, [], ◌∷◌, length, get_or, set, Option, Some, None, refl, sym, ap, ◌∙◌, arith}
 use Rattle.std.specs.Prelude.{slice_get}
 use Rattle.std.proofs.Math.Nat.{le_trans}
 use Rattle.std.proofs.lemmas.List.{get_or_past}
+use Rattle.apf_words.specs.declared.decision.Decision.{Decision}
+use Rattle.apf_words.specs.declared.decision.Decision.TheVariants.{Execute, QueueFull, Closed, Cancelled, ConcurrencyLimit}
 use Rattle.apf_gate.specs.Tokens.{PassToken}
+use Rattle.apf_local.specs.declared.answer.Ask.{Ask}
 use Rattle.apf_local.specs.declared.answer.Place.{Place}
 use Rattle.apf_local.specs.declared.answer.Place.TheVariants as places
 use Rattle.apf_local.specs.Levels.{LocalView, SlotMoves}
+use Rattle.apf_local.specs.Tries.{Places, place_by}
 use Rattle.apf_service.specs.Tallies.{Held, held_by, slots_of}
 use Rattle.apf_service.specs.Kept.{no_slot}
 
@@ -72,6 +76,18 @@ reads_waiting [] ts i p waits at = absurd (none_is p at)
 reads_waiting (q ∷ ps) [] i p waits at = absurd cc
 reads_waiting (q ∷ ps) (u ∷ ts) zero p waits at = sym (some_is q p at) ∙ waits
 reads_waiting (q ∷ ps) (u ∷ ts) (suc i) p waits at = reads_waiting ps ts i p waits at
+
+-- who read its decision arrived
+never_fresh : (found : Option Decision) (ask : Ask) → place_by found ≢ places.Fresh ask
+never_fresh None ask is = cc
+never_fresh (Some Execute) ask is = cc
+never_fresh (Some QueueFull) ask is = cc
+never_fresh (Some Closed) ask is = cc
+never_fresh (Some Cancelled) ask is = cc
+never_fresh (Some ConcurrencyLimit) ask is = cc
+
+pub not_fresh : (place : Place) (before after : PassToken) → Places place before after → (ask : Ask) → place ≢ places.Fresh ask
+not_fresh place before after reads ask is = never_fresh reads.found ask (sym reads.says ∙ is)
 
 -- one slot moves, and the others are as they were
 module _ (slot : ℕ) (l l' : LocalView) (Does : Place → PassToken → Place → PassToken → Type 0) (m : SlotMoves slot l l' Does) where

@@ -10,7 +10,7 @@ use Rattle.apf_words.specs.Limits.{max_requests}
 use Rattle.apf_gate.specs.Slots.{wide, coded_width, mark_of, round_of}
 use Rattle.apf_gate.specs.Tokens.{PassToken}
 use Rattle.apf_local.specs.declared.answer.Place.{Place}
-use Rattle.apf_local.specs.declared.answer.Place.TheVariants.{Free, Waits, Runs}
+use Rattle.apf_local.specs.declared.answer.Place.TheVariants.{Free, Fresh, Waits, Runs}
 use Rattle.apf_local.specs.Levels.{LocalView}
 use Rattle.apf_service.specs.declared.tally.Tally.{Tally}
 use Rattle.apf_service.specs.Tallies.{Held, held_by, slots_of, decided_in, waits_at, runs_at, seats_at, waits_in, runs_in, seats_in, rounds_in, no_tally, IsTallyOf, IsTallied}
@@ -19,11 +19,13 @@ use Rattle.apf_service.proofs.Slots.{held_few}
 
 waits_small : (p : Place) → waits_at p ≤ 1
 waits_small Free = omega arith
+waits_small (Fresh ask) = omega arith
 waits_small Waits = omega arith
 waits_small Runs = omega arith
 
 runs_small : (p : Place) → runs_at p ≤ 1
 runs_small Free = omega arith
+runs_small (Fresh ask) = omega arith
 runs_small Waits = omega arith
 runs_small Runs = omega arith
 
@@ -39,6 +41,7 @@ coded_small r = wide_small (mark_of r % 32768)
 
 seats_small : (p : Place) (r : ℕ) → seats_at p r ≤ 20000
 seats_small Free r = omega arith
+seats_small (Fresh ask) r = omega arith
 seats_small Waits r = omega arith
 seats_small Runs r = coded_small r
 
@@ -78,6 +81,7 @@ none_by : (places : List Place) (passes : List PassToken) → All (λ (p : Place
 none_by [] passes free = (refl, refl, refl)
 none_by (place ∷ places) [] free = (refl, refl, refl)
 none_by (Free ∷ places) (token ∷ passes) free = let rest = none_by places passes (All-tail (λ (p : Place). p ≡ Free) Free places free) in (omega (arith, rest.0), omega (arith, rest.1), omega (arith, rest.2))
+none_by (Fresh ask ∷ places) (token ∷ passes) free = absurd (let is = All-head (λ (p : Place). p ≡ Free) (Fresh ask) places free in cc)
 none_by (Waits ∷ places) (token ∷ passes) free = absurd (let is = All-head (λ (p : Place). p ≡ Free) Waits places free in cc)
 none_by (Runs ∷ places) (token ∷ passes) free = absurd (let is = All-head (λ (p : Place). p ≡ Free) Runs places free in cc)
 

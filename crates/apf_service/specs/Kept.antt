@@ -51,13 +51,14 @@ slot_in s n = slice_index_or (slots_of s.level) n no_slot
 abbrev pub width_in : Held → ℕ
 width_in held = coded_width held.number
 
--- who waits or executes is there, at its place
+-- who did not arrive yet, waits or executes is there, at its place
 abbrev pub is_there_at : Place → Bool
 is_there_at places.Free = false
+is_there_at (places.Fresh ask) = true
 is_there_at places.Waits = true
 is_there_at places.Runs = true
 
--- a request is there: it waits or executes
+-- a request is there: it did not arrive yet, waits or executes
 abbrev pub is_there : Held → Bool
 is_there held = is_there_at held.place
 

@@ -77,6 +77,7 @@ after_arrival width Wrong t = t
 abbrev pub after_poll : ℕ → Place → Tally → Tally
 after_poll width places.Runs t = started width (left t)
 after_poll width places.Free t = ended Cancelled (left t)
+after_poll width (places.Fresh ask) t = t
 after_poll width places.Waits t = t
 
 -- the numbers after a request of this width that executed gave its seats back
@@ -100,18 +101,21 @@ arrived_in t = decided_in t.counts + t.waiting
 -- a request that is there as a number: 1 if it waits
 abbrev pub waits_at : Place → ℕ
 waits_at places.Free = 0
+waits_at (places.Fresh ask) = 0
 waits_at places.Waits = 1
 waits_at places.Runs = 0
 
 -- 1 if it executes
 abbrev pub runs_at : Place → ℕ
 runs_at places.Free = 0
+runs_at (places.Fresh ask) = 0
 runs_at places.Waits = 0
 runs_at places.Runs = 1
 
 -- its width if it executes
 abbrev pub seats_at : Place → ℕ → ℕ
 seats_at places.Free number = 0
+seats_at (places.Fresh ask) number = 0
 seats_at places.Waits number = 0
 seats_at places.Runs number = coded_width number
 

@@ -23,7 +23,7 @@ fn after_poll(tally: Tally, width: u32, place: Place) -> Tally
     match place {
         Place::Runs => tally.leave().start(width),
         Place::Free => tally.leave().end(Decision::Cancelled),
-        Place::Waits => tally,
+        Place::Fresh(_) | Place::Waits => tally,
     }
 }
 

@@ -83,7 +83,7 @@ fn has_request(place: Place) -> bool
     ensures { result ≡ there_at place }
 {
     match place {
-        Place::Waits | Place::Runs => true,
+        Place::Fresh(_) | Place::Waits | Place::Runs => true,
         Place::Free => false,
     }
 }

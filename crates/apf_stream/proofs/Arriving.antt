@@ -27,6 +27,7 @@ use Rattle.apf_stream.proofs.Tying.{but_of, tied_anew}
 
 free_there : (p : Place) → IsWhere p None → p ≡ places.Free
 free_there places.Free at = refl
+free_there (places.Fresh ask) at = absurd at
 free_there places.Waits at = absurd at
 free_there places.Runs at = absurd at
 

@@ -26,11 +26,13 @@ use Rattle.apf_stream.proofs.Tying.{still_at}
 -- where the level says that a guest is
 waits_there : (p : Place) (g : Guest) → IsWhere p (Some g) → g.stay ≡ Waits → p ≡ places.Waits
 waits_there places.Free g at is = absurd at
+waits_there (places.Fresh ask) g at is = absurd at
 waits_there places.Waits g at is = refl
 waits_there places.Runs g at is = let e = at.1 in absurd (cc)
 
 runs_there : (p : Place) (g : Guest) (since : ℕ) → IsWhere p (Some g) → g.stay ≡ Holds since → p ≡ places.Runs
 runs_there places.Free g since at is = absurd at
+runs_there (places.Fresh ask) g since at is = absurd at
 runs_there places.Waits g since at is = absurd (cc)
 runs_there places.Runs g since at is = refl
 

@@ -72,6 +72,7 @@ by_place came s s' slot h told all w noted holds places.Free f = record {
   there = put_there came s s' slot None w.guest.guest all w.guest.here (ap (λ (v : SlotsView). v.slots) f.0) holds;
   asked = one_asked came (unserved h Cancelled s.slots.time) told f.1 (all slot w.guest.guest h w.guest.here noted);
 }
+by_place came s s' slot h told all w noted holds (places.Fresh ask) f = absurd f
 
 -- another is noted in a slot
 anew_there : (came : List Asked) (s s' : State) (slot : ℕ) (hold : Hold) → AreOf came s → slot < length s.holds → Contains came hold.asked → s'.holds ≡ set s.holds slot hold

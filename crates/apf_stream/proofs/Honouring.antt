@@ -88,6 +88,7 @@ good_later patience line time later times (Holds since) isnt on ahead good = goo
 -- nobody is there who has lost its patience
 where_patient : (p : Place) (g : Guest) → IsWhere p (Some g) → g.stay ≢ Impatient
 where_patient places.Free g at lost = absurd at
+where_patient (places.Fresh ask) g at lost = absurd at
 where_patient places.Waits g at lost = let e : ◌≡◌ {A = Stay} Waits Impatient = sym at ∙ lost in cc
 where_patient places.Runs g at lost = let e : ◌≡◌ {A = Stay} (Holds at.0) Impatient = sym at.1 ∙ lost in cc
 
@@ -161,6 +162,7 @@ by_place patience s v' slot h told same good w noted places.Free f =
       honoured = one_told patience (unserved h Cancelled s.slots.time) told f.1
           (cancelled_unserved, inl refl, subst (λ (t : Times). IsWithin patience t.arrives_at s.slots.time) (sym n.times) (subst (λ (p : ℕ). IsWithin p g.times.arrives_at s.slots.time) same within));
     }
+by_place patience s v' slot h told same good w noted (places.Fresh ask) f = absurd f
 
 -- a request whose arrival is answered as over is not executed
 not_executed : (d : Decision) (a : Admitted) (token : PassToken) → answers.Over d ≡ answer_of a → IsAdmitted a token → d ≢ Execute

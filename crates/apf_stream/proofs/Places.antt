@@ -1,6 +1,8 @@
 -- One place of a list that is set, and what calls of the level make of their slot.
 use Rattle.std.proofs.Common.{◌≡◌, ◌≢◌, ℕ, zero, suc, ◌<◌, List, [], ◌∷◌, length, set, Option, Some, None, refl, sym, ap, ◌∙◌, ⊎_elim, arith}
 use Rattle.std.specs.Prelude.{slice_get}
+use Rattle.apf_words.specs.declared.decision.Decision.{Decision}
+use Rattle.apf_words.specs.declared.decision.Decision.TheVariants.{Execute, QueueFull, Closed, Cancelled, ConcurrencyLimit}
 use Rattle.apf_book.specs.declared.life_event.LifeEvent.{LifeEvent}
 use Rattle.apf_gate.specs.Tokens.{PassToken}
 use Rattle.apf_local.specs.declared.admitting.Admitted.{Admitted}
@@ -11,7 +13,7 @@ use Rattle.apf_local.specs.declared.answer.Answer.TheVariants as answers
 use Rattle.apf_local.specs.declared.answer.Place.{Place}
 use Rattle.apf_local.specs.declared.answer.Place.TheVariants as places
 use Rattle.apf_local.specs.Levels.{LocalView, IsArrival, IsFinish, answer_of, place_of}
-use Rattle.apf_local.specs.Tries.{IsReading}
+use Rattle.apf_local.specs.Tries.{IsReading, place_by}
 
 pub some_is : {A : Type 0} {a b : A} → ◌≡◌ {A = Option A} (Some a) (Some b) → a ≡ b
 some_is is = cc
@@ -36,6 +38,23 @@ pub reading_sets : (slot : ℕ) (l l' : LocalView) (answer : Place) → IsReadin
 reading_sets slot l l' answer is waits =
     ⊎_elim
     (λ m. m.now_at ∙ ap (set l.places slot) m.does.place_is)
+    (λ s. absurd (s.2 (some_is (sym s.1 ∙ waits))))
+    is
+
+-- a decision says of no request that it did not arrive yet
+found_not_fresh : (found : Option Decision) (ask : Ask) → ◌≡◌ {A = Place} (places.Fresh ask) (place_by found) → ⊥
+found_not_fresh None ask e = cc
+found_not_fresh (Some Execute) ask e = cc
+found_not_fresh (Some QueueFull) ask e = cc
+found_not_fresh (Some Closed) ask e = cc
+found_not_fresh (Some Cancelled) ask e = cc
+found_not_fresh (Some ConcurrencyLimit) ask e = cc
+
+-- so one that waited did not read that
+pub reading_not_fresh : (slot : ℕ) (l l' : LocalView) (answer : Place) (ask : Ask) → IsReading slot l answer l' → slice_get l.places slot ≡ Some places.Waits → answer ≢ places.Fresh ask
+reading_not_fresh slot l l' answer ask is waits fresh =
+    ⊎_elim
+    (λ m. found_not_fresh m.does.reads.found ask (sym fresh ∙ m.does.reads.says))
     (λ s. absurd (s.2 (some_is (sym s.1 ∙ waits))))
     is
 

@@ -88,6 +88,7 @@ module _ (slot : ℕ) (s s' : State) (told : List Ended) (w : WaitsAt s slot) wh
   gone_tied place r places.Free e isnt =
       same_state s' s.holds s.charges r.holds r.charges
       (tied_free s slot w s'.level place r.reads r.serves s'.slots e (subst (λ (q : Place). FollowsPlace q slot r.hold s.slots s'.slots told) e r.follows).0)
+  gone_tied place r (places.Fresh ask) e isnt = absurd (subst (λ (q : Place). FollowsPlace q slot r.hold s.slots s'.slots told) e r.follows)
 
   -- a reading
   reads_tied : (place : Place) → Reads slot place s s' told → (p : Place) → place ≡ p → AreTied s → AreTied s'
@@ -97,6 +98,7 @@ module _ (slot : ℕ) (s s' : State) (told : List Ended) (w : WaitsAt s slot) wh
       (read_waits s slot w s'.level place r.reads r.serves e tied))
   reads_tied place r places.Runs e tied = gone_tied place r places.Runs e (λ x. absurd (runs_not_waits (sym e ∙ x)))
   reads_tied place r places.Free e tied = gone_tied place r places.Free e (λ x. absurd (free_not_waits (sym e ∙ x)))
+  reads_tied place r (places.Fresh ask) e tied = absurd (subst (λ (q : Place). FollowsPlace q slot r.hold s.slots s'.slots told) e r.follows)
 
   reads_once : (place : Place) → Reads slot place s s' told → (p : Place) → place ≡ p → (line : ℕ) → told_of line told + there_of line s'.slots.slots ≡ there_of line s.slots.slots
   reads_once place r places.Waits e line =
@@ -116,6 +118,7 @@ module _ (slot : ℕ) (s s' : State) (told : List Ended) (w : WaitsAt s slot) wh
       let l = leaves_there line slot s.slots s'.slots g (unserved r.hold Cancelled s.slots.time) w.guest.here (ap (λ (x : SlotsView). x.slots) f.0) n.line in
       let t = ap (told_of line) f.1 in
       omega arith
+  reads_once place r (places.Fresh ask) e line = absurd (subst (λ (q : Place). FollowsPlace q slot r.hold s.slots s'.slots told) e r.follows)
 
 -- an arrival
 module _ (slot : ℕ) (a : Asked) (s s' : State) (told : List Ended) (r : Arrives slot a s s' told) (tied : AreTied s) where

@@ -43,6 +43,7 @@ by_place : (place : Place) (slot : ℕ) (h : Hold) (v v' : SlotsView) (told : Li
 by_place places.Runs slot h v v' told f = let e = started_time v v' slot f.0 in record { forward = omega arith; over = none_told v'.time told f.1 }
 by_place places.Waits slot h v v' told f = let e = time_of v v' f.0 in record { forward = omega arith; over = none_told v'.time told f.1 }
 by_place places.Free slot h v v' told f = let e = ap (λ (x : SlotsView). x.time) f.0 in record { forward = omega arith; over = unserved_told h Cancelled v.time v'.time told f.1 (omega arith) }
+by_place (places.Fresh ask) slot h v v' told f = absurd f
 
 by_answer : (answer : Answer) (slot : ℕ) (h : Hold) (v v' : SlotsView) (told : List Ended) → FollowsAnswer answer slot h v v' told → IsInTime v.time v' told
 by_answer answers.Run slot h v v' told f = let e = started_time v v' slot f.0 in record { forward = omega arith; over = none_told v'.time told f.1 }

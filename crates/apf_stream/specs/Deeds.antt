@@ -58,6 +58,7 @@ abbrev pub FollowsPlace : Place → ℕ → Hold → SlotsView → SlotsView →
 FollowsPlace places.Runs slot h v v' told = Starts v slot v' × (told ≡ [])
 FollowsPlace places.Waits slot h v v' told = (v' ≡ v) × (told ≡ [])
 FollowsPlace places.Free slot h v v' told = (v' ≡ with_slot v slot None) × (told ≡ unserved h Cancelled v.time ∷ [])
+FollowsPlace (places.Fresh ask) slot h v v' told = ⊥
 
 -- the same level, whose operator made no step. Dispatches and Strikes alone came to each of its histories
 pub record Serves (l l' : LocalView) : Type 0 where

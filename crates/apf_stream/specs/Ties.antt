@@ -9,10 +9,11 @@ use Rattle.apf_calendar.specs.Guests.{IsIn, WaitsIn}
 use Rattle.apf_stream.specs.declared.asked.Hold.{Hold}
 use Rattle.apf_stream.specs.States.{State}
 
--- nobody is in a free slot; a request that waits there waits by the calendar, and one that executes has its seats
+-- nobody is in a free slot; a request that waits there waits by the calendar, and one that executes has its seats. No request is there before it arrives
 abbrev pub IsWhere : Place → Option Guest → Type 0
 IsWhere places.Free None = Unit {0}
 IsWhere places.Free (Some g) = ⊥
+IsWhere (places.Fresh ask) x = ⊥
 IsWhere places.Waits None = ⊥
 IsWhere places.Waits (Some g) = g.stay ≡ Waits
 IsWhere places.Runs None = ⊥

@@ -44,6 +44,7 @@ impl Stream {
                 };
                 tell(ends, ended)?;
             }
+            Place::Fresh(_) => unreachable!(),
         }
         Ok(place)
     }

@@ -1,82 +1,38 @@
--- The slot's next request, over its try and its arrival in the line.
-use Rattle.std.proofs.Common.{◌≡◌, ◌≢◌, inl, inr, List, set, Some, refl, sym, ap, ◌∙◌, subst}
+-- The slot's next request, over its beginning and its arrival.
+use Rattle.std.proofs.Common.{rules, ◌≡◌, List, set, Some, sym, ap, ◌∙◌, subst}
 use Rattle.std.specs.Prelude.{slice_get}
-use Rattle.apf_words.specs.declared.decision.Decision.{Decision}
-use Rattle.apf_words.specs.declared.decision.Decision.TheVariants.{Execute, QueueFull, Closed, Cancelled, ConcurrencyLimit}
 use Rattle.apf_gate.specs.Tokens.{PassToken}
-use Rattle.apf_local.specs.declared.admitting.Admitted.TheVariants as admitted
-use Rattle.apf_line.specs.declared.attempts.Tried.{Tried}
-use Rattle.apf_line.specs.declared.attempts.Tried.TheVariants as tries
-use Rattle.apf_local.specs.Owners.{Moves, Begins, IsRefusal}
+use Rattle.apf_local.specs.Owners.{IsFresh}
 use Rattle.apf_local.proofs.Places.{set_again}
 use Rattle.apf_local.proofs.Slots.{owner_then, get_same}
 use Rattle.apf_local.proofs.admitting.admit.Goals as goal
 
-not_execute : (t : PassToken) (d : Decision) → IsRefusal t d → d ≢ Execute
-not_execute t d (inl closed) is = let z = sym closed ∙ is in cc
-not_execute t d (inr (inl cancelled)) is = let z = sym cancelled ∙ is in cc
-not_execute t d (inr (inr no_room)) is = let z = sym no_room.0 ∙ is in cc
+pub come-requires-clause-fresh : goal.come-requires-clause-fresh
+come-requires-clause-fresh c = λ t at.
+    let renews = c.renew.ensures.renews (search rules) in
+    let is : t ≡ renews.after = get_same c.args.owner.now.passes c.args.slot renews.after t (subst (λ (ts : List PassToken). slice_get ts c.args.slot ≡ Some t) renews.now at) in
+    subst (IsFresh c.args.ask) (sym is) renews.does.is
 
-not_full : (t : PassToken) (d : Decision) → IsRefusal t d → ◌≡◌ (admitted.Over d) (admitted.Over QueueFull) → ⊥
-not_full t d (inl closed) is = let z : admitted.Over Closed ≡ admitted.Over QueueFull = subst (λ x. admitted.Over x ≡ admitted.Over QueueFull) closed is in cc
-not_full t d (inr (inl cancelled)) is = let z : admitted.Over Cancelled ≡ admitted.Over QueueFull = subst (λ x. admitted.Over x ≡ admitted.Over QueueFull) cancelled is in cc
-not_full t d (inr (inr no_room)) is = let z : admitted.Over ConcurrencyLimit ≡ admitted.Over QueueFull = subst (λ x. admitted.Over x ≡ admitted.Over QueueFull) no_room.0 is in cc
+pub returns-clause-same : goal.returns-clause-same
+returns-clause-same c = owner_then c.args.owner.now c.renew.new.self c.come.new.owner c.renew.ensures.same c.come.ensures.same
 
-pub returns-in-Run-clause-admits : goal.returns-in-Run-clause-admits
-returns-in-Run-clause-admits c =
-    let moves : Moves c.args.slot c.args.owner.now.passes c.begin.new.self.passes (Begins c.args.ask tries.Run) = subst (λ (t : Tried). Moves c.args.slot c.args.owner.now.passes c.begin.new.self.passes (Begins c.args.ask t)) c.in-Run.is c.in_ok-begin.ensures.begins in
-    record {
-      before = moves.before;
-      after = moves.after;
-      was = moves.was;
-      now = moves.now;
-      does = record {
-        number = moves.does.number;
-        is = moves.does.is;
-        tried = record { took = tries.Run; then = moves.after; number = refl; is = moves.does.is; follows = refl };
-        came = λ e. cc;
-        history = λ v kept. ((λ e. cc), (λ e. cc), c.begin.ensures.history v kept);
-      };
-    }
-
-pub returns-in-Over-clause-admits : goal.returns-in-Over-clause-admits
-returns-in-Over-clause-admits c =
-    let d = c.in-Over.decision in
-    let moves : Moves c.args.slot c.args.owner.now.passes c.begin.new.self.passes (Begins c.args.ask (tries.Over d c.in-Over._waiting)) = subst (λ (t : Tried). Moves c.args.slot c.args.owner.now.passes c.begin.new.self.passes (Begins c.args.ask t)) c.in-Over.is c.in_ok-begin.ensures.begins in
-    record {
-      before = moves.before;
-      after = moves.after;
-      was = moves.was;
-      now = moves.now;
-      does = record {
-        number = moves.does.number;
-        is = (moves.does.is.0, moves.does.is.1, not_execute moves.after d moves.does.is.2);
-        tried = record { took = tries.Over d c.in-Over._waiting; then = moves.after; number = refl; is = moves.does.is; follows = refl };
-        came = λ e. cc;
-        history = λ v kept. ((λ e. cc), not_full moves.after d moves.does.is.2, c.begin.ensures.history v kept);
-      };
-    }
-
-pub returns-in-Blocked-clause-same : goal.returns-in-Blocked-clause-same
-returns-in-Blocked-clause-same c = owner_then c.args.owner.now c.begin.new.self c.enqueue.new.owner c.begin.ensures.same c.enqueue.ensures.same
-
-pub returns-in-Blocked-clause-admits : goal.returns-in-Blocked-clause-admits
-returns-in-Blocked-clause-admits c =
+pub returns-clause-admits : goal.returns-clause-admits
+returns-clause-admits c =
     let i = c.args.slot in
     let ps = c.args.owner.now.passes in
-    let moves : Moves i ps c.begin.new.self.passes (Begins c.args.ask tries.Blocked) = subst (λ (t : Tried). Moves i ps c.begin.new.self.passes (Begins c.args.ask t)) c.in-Blocked.is c.in_ok-begin.ensures.begins in
-    let stands = c.enqueue.ensures.stands in
-    let same : stands.before ≡ moves.after = get_same ps i moves.after stands.before (subst (λ (xs : List PassToken). slice_get xs i ≡ Some stands.before) moves.now stands.was) in
+    let renews = c.renew.ensures.renews (search rules) in
+    let stands = c.come.ensures.stands in
+    let same : stands.before ≡ renews.after = get_same ps i renews.after stands.before (subst (λ (xs : List PassToken). slice_get xs i ≡ Some stands.before) renews.now stands.was) in
     record {
-      before = moves.before;
+      before = renews.before;
       after = stands.after;
-      was = moves.was;
-      now = stands.now ∙ (ap (λ (xs : List PassToken). set xs i stands.after) moves.now ∙ set_again ps i moves.after stands.after);
+      was = renews.was;
+      now = stands.now ∙ (ap (λ (xs : List PassToken). set xs i stands.after) renews.now ∙ set_again ps i renews.after stands.after);
       does = record {
-        number = stands.does.number ∙ (ap (λ (t : PassToken). t.pass.number) same ∙ moves.does.number);
+        number = stands.does.number ∙ (ap (λ (t : PassToken). t.pass.number) same ∙ renews.does.number);
         is = stands.does.is;
-        tried = record { took = tries.Blocked; then = moves.after; number = stands.does.number ∙ ap (λ (t : PassToken). t.pass.number) same; is = moves.does.is; follows = tt };
+        tried = stands.does.tried;
         came = stands.does.came;
-        history = λ v kept. stands.does.history v (c.begin.ensures.history v kept);
+        history = λ v kept. stands.does.history v (c.renew.ensures.history v kept);
       };
     }

@@ -5,8 +5,14 @@ use Rattle.apf_stream.specs.Deeds.{Serves, unserved}
 use Rattle.apf_words.specs.declared.decision.Decision.TheVariants.{Cancelled}
 use Rattle.apf_stream.specs.States.{State, state_of}
 use Rattle.apf_stream.proofs.Lefts.{leaves_fewer, starts_fewer}
+use Rattle.apf_stream.proofs.Places.{reading_not_fresh}
 use Rattle.apf_stream.proofs.Readings.{reads_free, reads_runs, reads_waits, tied_free, tied_runs, tied_waits}
 use Rattle.apf_stream.proofs.stream.Stream.read.Goals as goal
+
+pub unreachable-requires : goal.unreachable-requires
+unreachable-requires c =
+    let l' = c.place-place.new.self.level in
+    reading_not_fresh c.args.slot c.args.self.now.level.level l' c.place-place.result c.in-Fresh.field-0 c.place-place.ensures.reads c.requires.waits.place c.in-Fresh.is
 
 pub returns-in-Waits-clause-reads : goal.returns-in-Waits-clause-reads
 returns-in-Waits-clause-reads c =

@@ -6,7 +6,6 @@ use crate::reading::{Explained, level_fault, read_level, script_in};
 use apf_run::replay;
 use std::alloc::Global;
 use std::io::Write;
-use std::sync::Wait;
 
 // Prints the line of a fault, which is answered where that was written.
 fn print_line<O: Write>(explained: Explained, out: &mut O) -> Fault {
@@ -18,15 +17,14 @@ fn print_line<O: Write>(explained: Explained, out: &mut O) -> Fault {
 }
 
 // Reads and judges the files as `replay` does, and opens the level.
-fn judge<F: Files, R: Wait>(
-    rt: &R,
+fn judge<F: Files>(
     alloc: Global,
     files: &mut F,
     names: (&str, &str, &str),
 ) -> Result<(), Explained> {
     let (config, requests) = read_level(alloc, files, names.0, names.1)?;
     let _commands = script_in(alloc, files, names.2, requests.len() as u32)?;
-    match replay(rt, alloc, &config, requests.as_slice(), &[]) {
+    match replay(alloc, &config, requests.as_slice(), &[]) {
         Ok(_transcript) => Ok(()),
         Err(fault) => Err(level_fault(alloc, names.0, &config, fault.into())),
     }
@@ -38,15 +36,14 @@ fn judge<F: Files, R: Wait>(
 /// # Errors
 ///
 /// The fault that was printed, in the order config, requests, script, level, or else one of the output.
-pub(crate) fn print_explanation<F: Files, O: Write, R: Wait>(
-    rt: &R,
+pub(crate) fn print_explanation<F: Files, O: Write>(
     alloc: Global,
     files: &mut F,
     names: (&str, &str, &str),
     out: &mut O,
 ) -> Result<(), Fault> {
     judge_names(&[names.0, names.1, names.2])?;
-    match judge(rt, alloc, files, names) {
+    match judge(alloc, files, names) {
         Ok(()) => Ok(()),
         Err(explained) => Err(print_line(explained, out)),
     }

@@ -59,15 +59,14 @@ fn print_deal<O: Write>(deck: u32, hand: u32, hash: u64, out: &mut O) -> Result<
 }
 
 // Reads the three files, each judged before the next is read, and runs the script.
-fn replayed<F: Files, R: Wait>(
-    rt: &R,
+fn replayed<F: Files>(
     alloc: Global,
     files: &mut F,
     names: (&str, &str, &str),
 ) -> Result<Transcript, Explained> {
     let (config, requests) = read_level(alloc, files, names.0, names.1)?;
     let commands = script_in(alloc, files, names.2, requests.len() as u32)?;
-    match replay(rt, alloc, &config, requests.as_slice(), commands.as_slice()) {
+    match replay(alloc, &config, requests.as_slice(), commands.as_slice()) {
         Ok(transcript) => Ok(transcript),
         Err(fault) => Err(level_fault(alloc, names.0, &config, fault.into())),
     }
@@ -75,8 +74,7 @@ fn replayed<F: Files, R: Wait>(
 
 // Does what a command on a script asks for, and prints what it says. `is_whole` says whether the line of a fault has the
 // one behind it that says it to a person.
-fn print_scripted<F: Files, O: Write, R: Wait>(
-    rt: &R,
+fn print_scripted<F: Files, O: Write>(
     alloc: Global,
     command: &str,
     files: &mut F,
@@ -87,10 +85,10 @@ fn print_scripted<F: Files, O: Write, R: Wait>(
     requires { is_script_command command.now ≡ true }
 {
     if command == "explain" {
-        return print_explanation(rt, alloc, files, names, out);
+        return print_explanation(alloc, files, names, out);
     }
     judge_names(&[names.0, names.1, names.2])?;
-    let transcript = match replayed(rt, alloc, files, names) {
+    let transcript = match replayed(alloc, files, names) {
         Ok(transcript) => transcript,
         Err(explained) => return Err(explained.told(alloc, is_whole)),
     };
@@ -162,7 +160,7 @@ fn print_action<
         } => {
             let is_whole = err.is_terminal();
             let names = (config, requests, script);
-            print_scripted(rt, alloc, command, files, names, is_whole, out)
+            print_scripted(alloc, command, files, names, is_whole, out)
         }
         Arguments::Workers {
             config,

@@ -14,3 +14,6 @@ pub mod RoundsOpened
 pub mod RoundsCrews
 pub mod RoundsReturned
 pub mod RoundsTold
+pub mod Renaming
+pub mod Batching
+pub mod BatchOpened

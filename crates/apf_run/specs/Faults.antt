@@ -5,6 +5,8 @@ use Rattle.apf_files.specs.declared.requests.Request.{Request}
 use Rattle.apf_session.specs.declared.fault.OpenFault.{OpenFault}
 use Rattle.apf_session.specs.declared.fault.OpenFault.TheVariants as faults
 use Rattle.apf_session.specs.Openings.{CanOpen, IsGateFault, IsLevelFault, IsOpenFault}
+use Rattle.apf_local.specs.declared.fault.OpenFault.{OpenFault as LocalFault}
+use Rattle.apf_local.specs.declared.fault.OpenFault.TheVariants as local
 use Rattle.apf_run.specs.declared.fault.RunFault.{RunFault}
 use Rattle.apf_run.specs.declared.fault.RunFault.TheVariants as run
 use Rattle.apf_run.specs.Asks.{asks_of}
@@ -29,3 +31,9 @@ abbrev pub told_of_opening : OpenFault → RunFault
 told_of_opening (faults.Gate fault) = run.Gate fault
 told_of_opening (faults.Level fault) = run.Level fault
 told_of_opening faults.NoMemory = run.NoMemory
+
+-- what a fault of the opening of a level of one thread is told as by a replay
+abbrev pub told_of_local : LocalFault → OpenFault
+told_of_local (local.Gate fault) = faults.Gate fault
+told_of_local (local.Level fault) = faults.Level fault
+told_of_local local.NoMemory = faults.NoMemory

@@ -8,6 +8,7 @@ pub mod Crews
 pub mod Runs
 pub mod Faults
 pub mod Waits
+pub mod Batches
 pub mod RoundsPlans
 pub mod RoundsWorkers
 pub mod RoundsRuns

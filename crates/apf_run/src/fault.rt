@@ -3,7 +3,7 @@
 ghost use Rattle.std.specs.Prelude.{◌≡◌};
 ghost use Rattle.apf_session.specs.Openings.{told_of_level};
 ghost use Rattle.apf_run.specs.declared.fault.RunFault.TheVariants as run;
-ghost use Rattle.apf_run.specs.Faults.{told_of_opening};
+ghost use Rattle.apf_run.specs.Faults.{told_of_opening, told_of_local};
 
 use apf_book::BookFault;
 use apf_gate::GateFault;
@@ -13,6 +13,17 @@ use thiserror::Error;
 
 /// Why a script was not replayed: why its level was not opened.
 pub type ReplayFault = OpenFault;
+
+/// Why a level of one thread was not opened, as a replay tells it.
+pub fn told(fault: apf_local::OpenFault) -> ReplayFault
+    ensures { result ≡ told_of_local fault }
+{
+    match fault {
+        apf_local::OpenFault::Gate(fault) => ReplayFault::Gate(fault),
+        apf_local::OpenFault::Level(fault) => ReplayFault::Level(fault),
+        apf_local::OpenFault::NoMemory => ReplayFault::NoMemory,
+    }
+}
 
 /// Why requests were not run by workers.
 #[derive(Clone, Copy, Debug, PartialEq, Eq, Error)]

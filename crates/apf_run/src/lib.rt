@@ -12,6 +12,7 @@
 #![tactic(auto)]
 
 mod asks;
+mod batch;
 mod book;
 mod crew;
 mod fault;

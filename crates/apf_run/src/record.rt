@@ -3,22 +3,24 @@
 ghost use Rattle.std.specs.Prelude.{◌≤◌, length};
 ghost use Rattle.apf_words.specs.Limits.{max_requests};
 
+use crate::batch::event_by_slot;
 use crate::services::{Service, count_all, no_services};
+use apf_book::LifeEvent;
 use apf_files::Request;
-use apf_level::{Counts, Level, Naming};
+use apf_gate::Ticket;
+use apf_level::Counts;
+use apf_local::LocalLevel;
 use apf_model::Event;
-use apf_session::Follower;
 use apf_texts::Line;
 use apf_words::Decision;
 use std::alloc::{AllocError, Global};
-use std::sync::Wait;
 
 /// The lines so far, the decision of each request as far as it was told, and the log as far as it was read.
 #[derive(Drop)]
 pub struct Record {
     lines: Vec<Line>,
     decisions: Vec<Option<Decision>>,
-    log: Follower,
+    log: Vec<Event>,
     services: Vec<Service>,
     ghost few_requests: { length decisions.items ≤ max_requests },
 }
@@ -41,7 +43,7 @@ impl Record {
         Ok(Record {
             lines: Vec::with_capacity(alloc, commands.saturating_add(requests))?,
             decisions: vec![in alloc; None; requests]?,
-            log: Follower::new(alloc, requests)?,
+            log: Vec::with_capacity(alloc, 2 * requests)?,
             services: no_services(alloc, queues)?,
         })
     }
@@ -63,18 +65,27 @@ impl Record {
     }
 
     /// How many events of the log were read.
-    pub fn read(&self) -> u32 {
+    pub fn read(&self) -> usize {
         self.log.len()
     }
 
     /// Reads what the level's log gained.
-    pub fn follow<K: Naming, R: Wait>(&mut self, rt: &R, level: &Level<K>) {
-        self.log.follow(&level.lock(rt));
+    ///
+    /// # Errors
+    ///
+    /// `AllocError` if there was no room and memory was refused.
+    pub fn follow(&mut self, level: &LocalLevel) -> Result<(), AllocError> {
+        for place in self.log.len() as u64..level.events() {
+            let mut next = [LifeEvent::Full(Ticket::of(0), 0)];
+            level.copy_events(place, &mut next);
+            self.log.push(event_by_slot(next[0]))?;
+        }
+        Ok(())
     }
 
     /// The event at this place of the log, if it was read.
-    pub fn event(&self, place: u32) -> Option<Event> {
-        self.log.event(place)
+    pub fn event(&self, place: usize) -> Option<Event> {
+        self.log.get(place).copied()
     }
 
     // How many requests were told this decision.
@@ -110,7 +121,7 @@ impl Record {
             log,
             mut services,
         } = self;
-        count_all(services.as_mut_slice(), requests, log.events());
+        count_all(services.as_mut_slice(), requests, log.as_slice());
         (lines, services)
     }
 }

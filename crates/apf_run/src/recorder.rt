@@ -1,31 +1,28 @@
-//! A level in the hands of one thread, and what is noted of it.
+//! A batch on a level of one thread, and what is noted of it.
 
-ghost use Rattle.std.specs.Prelude.{◌≡◌, ◌↔◌, ◌<◌, ◌≤◌, length, map, IfOk, IfErr, OnOk, IsTrue};
-ghost use Rattle.apf_words.specs.Limits.{max_limit, max_queues, max_requests};
-ghost use Rattle.apf_model.specs.declared.response.Response.TheVariants.{Queue};
-ghost use Rattle.apf_files.specs.ScriptFile.{IsCommandInRange};
-ghost use Rattle.apf_session.specs.Openings.{level_of, CanOpen, IsOpenFault};
-ghost use Rattle.apf_session.specs.Requests.{AreNumbered};
+ghost use Rattle.std.specs.Prelude.{◌≡◌, ◌≤◌, length, map, IfOk, IfErr, OnOk};
+ghost use Rattle.apf_words.specs.Limits.{max_limit};
+ghost use Rattle.apf_run.specs.Faults.{CanRun, IsReplayFault};
 
+use crate::batch::Batch;
+use crate::fault::ReplayFault;
 use crate::record::Record;
-use crate::totals::totals_of;
+use crate::totals::totals_so_far;
 use crate::waits::{Waits, waits_of};
-use apf_files::{Command, Request};
+use apf_book::LifeEvent;
+use apf_files::{Command, Config, Request};
 use apf_gate::Close;
-use apf_level::Naming;
+use apf_local::{Answer, Place};
 use apf_model::{Event, Response};
-use apf_session::{Answer, OpenFault, Opening, Session};
 use apf_texts::{Line, Totals};
 use apf_words::{Decision, MAX_LIMIT};
 use std::alloc::{AllocError, Global};
-use std::sync::Wait;
 
-/// A level with all its tokens, and what is noted of it. It must be ended.
-pub struct Recorder<K: Naming> {
-    session: Session<K>,
+/// A level with a slot for each request, and what is noted of it.
+#[derive(Drop)]
+pub struct Recorder {
+    batch: Batch,
     record: Record,
-    ghost one_station: { K.level.gate.shape.stations ≡ 1 },
-    ghost numbered: { AreNumbered session.requests.items },
 }
 
 // The decision that an answer tells.
@@ -37,43 +34,38 @@ fn decision_of(answer: Answer) -> Option<Decision> {
     }
 }
 
-impl<K: Naming> Recorder<K> {
-    /// The level of this opening, with memory for a script of this many commands.
+// The decision of a request that waited and is at this place now: one that is over was cancelled.
+fn decision_at(place: Place) -> Option<Decision> {
+    match place {
+        Place::Runs => Some(Decision::Execute),
+        Place::Free => Some(Decision::Cancelled),
+        Place::Fresh(_) | Place::Waits => None,
+    }
+}
+
+impl Recorder {
+    /// A level of this config for these requests, with memory for a script of this many commands.
     ///
     /// # Errors
     ///
-    /// The level's fault, or `NoMemory`. Then everything is given up.
-    pub fn open<R: Wait>(
-        rt: &R,
+    /// As of `replay`.
+    pub fn open(
         alloc: Global,
-        opening: Opening<'_>,
+        config: &Config,
+        requests: &[Request],
         commands: usize,
-    ) -> Result<Recorder<K>, OpenFault>
-        requires level { K.level ≡ level_of opening.gate opening.board.cell opening.config opening.asks.now }
-        requires one { opening.gate.shape.stations ≡ 1 }
-        ensures settings { OnOk result (CanOpen opening.entry.config opening.entry.asks.now 1) }
-        ensures fault { IfErr result (IsOpenFault opening.entry.config opening.entry.asks.now 1) }
+    ) -> Result<Recorder, ReplayFault>
+        ensures count { IfOk result (λ r. length r.batch.owner.passes ≡ length requests.now) }
+        ensures settings { OnOk result (CanRun config.now requests.now 1) }
+        ensures fault { IfErr result (IsReplayFault config.now requests.now 1) }
     {
-        let queues = match opening.config.limit_response {
-            Response::Queue => opening.config.queues,
+        let queues = match config.limit_response {
+            Response::Queue => config.queues,
             Response::Reject => 0,
         };
-        let record = Record::new(alloc, opening.asks.len(), commands, queues)?;
-        let session = Session::open(rt, alloc, opening)?;
-        Ok(Recorder { session, record })
-    }
-
-    // Whether the request that the command names is there, or its limit one of 1 to 10,000 seats.
-    fn can_carry_out(&self, command: Command) -> bool
-        ensures { IsTrue result ↔ IsCommandInRange (length K.level.gate.shape.widths) command }
-    {
-        match command {
-            Command::Arrive(request) | Command::Finish(request) | Command::Cancel(request) => {
-                (request as usize) < self.session.requests.len()
-            }
-            Command::Close => true,
-            Command::Limit(limit) => 1 <= limit && limit <= MAX_LIMIT,
-        }
+        let batch = Batch::open(alloc, config, requests)?;
+        let record = Record::new(alloc, requests.len(), commands, queues)?;
+        Ok(Recorder { batch, record })
     }
 
     /// Carries out a command, and notes what it did: nothing, if what it names is not there.
@@ -81,114 +73,133 @@ impl<K: Naming> Recorder<K> {
     /// # Errors
     ///
     /// `AllocError` if there was no room for a line and memory was refused.
-    pub fn carry_out<R: Wait>(&mut self, rt: &R, command: Command) -> Result<(), AllocError> {
-        if !self.can_carry_out(command) {
-            return Ok(());
-        }
+    pub fn carry_out(&mut self, command: Command) -> Result<(), AllocError>
+        ensures count { length self.new.batch.owner.passes ≡ length self.old.batch.owner.passes }
+    {
         let line = match command {
-            Command::Arrive(request) => self.arrive(rt, request),
-            Command::Finish(request) => self.finish(rt, request),
-            Command::Cancel(request) => self.cancel(rt, request),
-            Command::Close => self.close(),
-            Command::Limit(limit) => self.set_limit(rt, limit),
+            Command::Arrive(request) => self.arrive(request),
+            Command::Finish(request) => self.finish(request),
+            Command::Cancel(request) => self.cancel(request),
+            Command::Close => Some(self.close()),
+            Command::Limit(limit) => self.set_limit(limit),
         };
+        match line {
+            Some(line) => self.tell(line),
+            None => Ok(()),
+        }
+    }
+
+    // Notes the line of a command, and then what the log gained by it.
+    fn tell(&mut self, line: Line) -> Result<(), AllocError>
+        ensures count { length self.new.batch.owner.passes ≡ length self.old.batch.owner.passes }
+    {
         let from = self.record.read();
-        self.record.follow(rt, &self.session.level);
+        self.record.follow(self.batch.level())?;
         self.record.add(line)?;
-        self.note_all(rt, from)
-    }
-
-    // The request arrives, unless it did. If it entered a queue, or found one full, the line names the queue.
-    fn arrive<R: Wait>(&mut self, rt: &R, request: u32) -> Line
-        requires { request < length K.level.gate.shape.widths }
-    {
-        let (answer, event) = self.session.begin_with_event(rt, request);
-        let told = decision_of(answer);
-        if let Some(decision) = told {
-            self.record.decide(request, decision);
-        }
-        match (event, told) {
-            (Some(Event::Enter(_request, queue)), _told) => Line::Queued(request, queue),
-            (Some(Event::Full(_request, queue)), _told) => Line::QueueFull(request, queue),
-            (_none, Some(decision)) => Line::Arrives(request, decision),
-            (_none, None) => Line::Again(request),
-        }
-    }
-
-    // The request gives its seats back, if it runs.
-    fn finish<R: Wait>(&mut self, rt: &R, request: u32) -> Line
-        requires { request < length K.level.gate.shape.widths }
-    {
-        match self.session.finish(rt, request) {
-            Answer::Released(_) => Line::Finishes(request),
-            _ => Line::NotRunning(request),
-        }
-    }
-
-    // The request is cancelled, if it is undecided, and struck.
-    fn cancel<R: Wait>(&mut self, rt: &R, request: u32) -> Line
-        requires { request < length K.level.gate.shape.widths }
-    {
-        let decision = self.session.cancel(rt, request);
-        self.record.decide(request, decision);
-        Line::Cancels(request, decision)
-    }
-
-    fn close(&mut self) -> Line {
-        match self.session.close() {
-            Close::First => Line::ClosesFirst,
-            Close::Already => Line::ClosesAlready,
-        }
-    }
-
-    fn set_limit<R: Wait>(&mut self, rt: &R, limit: u32) -> Line
-        requires some { 1 ≤ limit }
-        requires small { limit ≤ max_limit }
-    {
-        let old = self.session.set_limit(rt, limit);
-        Line::Limits(limit, old)
-    }
-
-    // Notes the events that were read, from this place on.
-    fn note_all<R: Wait>(&mut self, rt: &R, from: u32) -> Result<(), AllocError> {
         for place in from..self.record.read() {
             if let Some(event) = self.record.event(place) {
-                self.note(rt, event)?;
+                self.note(event)?;
             }
         }
         Ok(())
     }
 
+    // The request arrives, unless it did. If it entered a queue, or found one full, the line names the queue.
+    fn arrive(&mut self, request: u32) -> Option<Line>
+        ensures count { length self.new.batch.owner.passes ≡ length self.old.batch.owner.passes }
+    {
+        if !self.batch.has(request) {
+            return None;
+        }
+        let (answer, event) = self.batch.arrive(request);
+        let told = decision_of(answer);
+        if let Some(decision) = told {
+            self.record.decide(request, decision);
+        }
+        Some(match (event, told) {
+            (Some(LifeEvent::Enter(_ticket, queue)), _told) => Line::Queued(request, queue),
+            (Some(LifeEvent::Full(_ticket, queue)), _told) => Line::QueueFull(request, queue),
+            (_none, Some(decision)) => Line::Arrives(request, decision),
+            (_none, None) => Line::Again(request),
+        })
+    }
+
+    // The request gives its seats back, if it runs.
+    fn finish(&mut self, request: u32) -> Option<Line>
+        ensures count { length self.new.batch.owner.passes ≡ length self.old.batch.owner.passes }
+    {
+        if !self.batch.has(request) {
+            return None;
+        }
+        Some(if self.batch.finish(request) {
+            Line::Finishes(request)
+        } else {
+            Line::NotRunning(request)
+        })
+    }
+
+    // The request is cancelled, if it is undecided, and struck.
+    fn cancel(&mut self, request: u32) -> Option<Line>
+        ensures count { length self.new.batch.owner.passes ≡ length self.old.batch.owner.passes }
+    {
+        let decision = self.batch.cancel(request)?;
+        self.record.decide(request, decision);
+        Some(Line::Cancels(request, decision))
+    }
+
+    fn close(&mut self) -> Line
+        ensures count { length self.new.batch.owner.passes ≡ length self.old.batch.owner.passes }
+    {
+        match self.batch.close() {
+            Close::First => Line::ClosesFirst,
+            Close::Already => Line::ClosesAlready,
+        }
+    }
+
+    // Sets the limit, if it is one of 1 to 10,000 seats.
+    fn set_limit(&mut self, limit: u32) -> Option<Line>
+        ensures count { length self.new.batch.owner.passes ≡ length self.old.batch.owner.passes }
+    {
+        if !(1..=MAX_LIMIT).contains(&limit) {
+            return None;
+        }
+        let old = self.batch.set_limit(limit);
+        Some(Line::Limits(limit, old))
+    }
+
     // Notes an event. A request that was dispatched or struck reads its decision. An arrival has its line already.
-    fn note<R: Wait>(&mut self, rt: &R, event: Event) -> Result<(), AllocError> {
+    fn note(&mut self, event: Event) -> Result<(), AllocError>
+        ensures count { length self.new.batch.owner.passes ≡ length self.old.batch.owner.passes }
+    {
         match event {
             Event::Enter(_request, _queue) | Event::Full(_request, _queue) => Ok(()),
             Event::Dispatch(request, queue) => {
-                self.poll(rt, request);
+                self.read(request);
                 self.record.add(Line::Dispatches(request, queue))
             }
             Event::Strike(request, queue) => {
-                self.poll(rt, request);
+                self.read(request);
                 self.record.add(Line::Strikes(request, queue))
             }
         }
     }
 
-    // The request reads its decision, if it waits.
-    fn poll<R: Wait>(&mut self, rt: &R, request: u32) {
-        if request as usize >= self.session.requests.len() {
-            return;
-        }
-        if let Some(decision) = decision_of(self.session.poll(rt, request)) {
+    // The request, which left its queue, reads its decision.
+    fn read(&mut self, request: u32)
+        ensures count { length self.new.batch.owner.passes ≡ length self.old.batch.owner.passes }
+    {
+        if let Some(decision) = self.batch.place(request).and_then(decision_at) {
             self.record.decide(request, decision);
         }
     }
 
     /// What the book says now.
-    pub fn totals<R: Wait>(&mut self, rt: &R) -> Totals {
-        let word = self.session.look();
-        let stats = self.session.stats(rt);
-        totals_of(word, self.record.counts(), self.record.undecided(), stats)
+    pub fn totals(&mut self) -> Totals
+        ensures count { length self.new.batch.owner.passes ≡ length self.old.batch.owner.passes }
+    {
+        let word = self.batch.look();
+        let stats = self.batch.level().stats();
+        totals_so_far(word, self.record.counts(), self.record.undecided(), stats)
     }
 
     /// The log as it stands, and the widths of the requests.
@@ -196,25 +207,16 @@ impl<K: Naming> Recorder<K> {
     /// # Errors
     ///
     /// `AllocError` if memory was refused.
-    pub fn waits<R: Wait>(
-        &self,
-        rt: &R,
-        alloc: Global,
-        response: Response,
-        requests: &[Request],
-    ) -> Result<Waits, AllocError>
-        requires one_each { length requests.now ≡ length K.level.opening.costs }
-        requires few { length requests.now ≤ max_requests }
-        requires queues { response ≡ Queue → K.level.opening.sizes.deck ≤ max_queues }
+    pub fn waits(&self, alloc: Global, requests: &[Request]) -> Result<Waits, AllocError>
+        requires one_each { length requests.now ≡ length self.now.batch.owner.passes }
         ensures { IfOk result (λ w. w.widths ≡ map (λ r. r.width) requests.now) }
     {
-        waits_of(rt, alloc, &self.session.level, response, requests)
+        waits_of(alloc, &self.batch, requests)
     }
 
-    /// Brings each request to its end, and ends the level. What was noted is told, even where memory was refused.
-    pub fn end<R: Wait>(self, rt: &R, alloc: Global) -> (Record, Result<(), AllocError>) {
-        let Recorder { session, record } = self;
-        let ended = session.end(rt, alloc).map(|_report| ());
-        (record, ended)
+    /// What was noted.
+    pub fn into_record(self) -> Record {
+        let Recorder { batch: _, record } = self;
+        record
     }
 }

@@ -2,22 +2,19 @@
 
 ghost use Rattle.std.specs.Prelude.{◌≡◌, ◌≢◌, ◌⊎◌, ℕ, ◌*◌, ◌<◌, ◌≤◌, List, length, map, reverse, slice_get, MatchOption, IfOk, OnOk, Option};
 ghost use Rattle.std.specs.Io.KnownBytes.{Appends};
-ghost use Rattle.apf_words.specs.Limits.{max_requests, max_queues};
-ghost use Rattle.apf_model.specs.declared.response.Response.TheVariants.{Queue};
 ghost use Rattle.apf_model.specs.History.{request_of};
 ghost use Rattle.apf_model.specs.Order.{status, makes};
 ghost use Rattle.apf_book.specs.declared.overtaking.Wait.{Wait};
 ghost use Rattle.apf_run.specs.Waits.{IsOfLevel, IsWaitIn, IsWaitsText, end_name as name_of, line_of, wait_text};
 
+use crate::batch::Batch;
 use apf_book::{Wait, overtaken};
 use apf_files::Request;
-use apf_level::{Level, Naming};
-use apf_model::{Event, Response, Status};
+use apf_model::{Event, Status};
 use std::alloc::{AllocError, Global};
 use std::io;
 use std::io::Write;
 use std::marker::Model;
-use std::sync::Wait as Waiting;
 
 /// The log of a level as it stood, and the widths of its requests.
 #[derive(Debug, Drop)]
@@ -52,40 +49,17 @@ fn widths_of(alloc: Global, requests: &[Request]) -> Result<Vec<u32>, AllocError
     requests.iter().map(|request| request.width).collect(alloc)
 }
 
-// How many events the log of a level may have.
-fn room_for(response: Response, requests: usize) -> usize
-    requires { requests ≤ max_requests }
-    ensures all { response ≡ Queue → result ≡ 2 * requests }
-    ensures few { result ≤ 2 * max_requests }
-    ensures none { (result ≡ 0) ⊎ (response ≡ Queue) }
-{
-    match response {
-        Response::Queue => 2 * requests,
-        Response::Reject => 0,
-    }
-}
-
 /// The log of a level as it stands, and the widths of its requests. A level without queues has no log.
 ///
 /// # Errors
 ///
 /// `AllocError` if memory was refused.
-pub fn waits_of<K: Naming, R: Waiting>(
-    rt: &R,
-    alloc: Global,
-    level: &Level<K>,
-    response: Response,
-    requests: &[Request],
-) -> Result<Waits, AllocError>
-    requires one_each { length requests.now ≡ length K.level.opening.costs }
-    requires few { length requests.now ≤ max_requests }
-    requires queues { response ≡ Queue → K.level.opening.sizes.deck ≤ max_queues }
+pub fn waits_of(alloc: Global, level: &Batch, requests: &[Request]) -> Result<Waits, AllocError>
+    requires one_each { length requests.now ≡ length level.now.owner.passes }
     ensures { IfOk result (λ w. w.widths ≡ map (λ r. r.width) requests.now) }
 {
     let widths = widths_of(alloc, requests)?;
-    let mut log = vec![in alloc; Event::Enter(0, 0); room_for(response, requests.len())]?;
-    let count = level.lock(rt).copy_events(0, log.as_mut_slice());
-    log.truncate(count as usize);
+    let log = level.log(alloc)?;
     Ok(Waits { log, widths })
 }
 

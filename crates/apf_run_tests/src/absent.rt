@@ -54,7 +54,7 @@ fn commands_of_nobody(rt: HostRuntime) -> Result<(), Fault> {
         executed 2 rejected 0 cancelled 0 undecided 0\n\
         queue-full 0 closed 0 concurrency-limit 0\n\
         entered 1 dispatched 1 struck 0\n";
-    let transcript = replay(&rt, rt.alloc(), &CONFIG, &[REQUEST; 2], &commands)?;
+    let transcript = replay(rt.alloc(), &CONFIG, &[REQUEST; 2], &commands)?;
     let mut buffer = vec![in rt.alloc(); 0u8; whole.len()]?;
     let mut rest = buffer.as_mut_slice();
     is(&rt, transcript.write(&mut rest), Ok(()));

@@ -69,7 +69,7 @@ fn faults_of_the_level(rt: HostRuntime) -> Result<(), Fail> {
         queue_length_limit: 10,
         limit_response: Response::Queue,
     };
-    let Err(ReplayFault::Level(fault)) = replay(&rt, rt.alloc(), &config, &[], &[]) else {
+    let Err(ReplayFault::Level(fault)) = replay(rt.alloc(), &config, &[], &[]) else {
         panic!(rt; "replay")
     };
     is(&rt, fault.to_string(rt.alloc())?.as_str(), "hand too large");

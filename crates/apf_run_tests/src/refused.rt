@@ -61,8 +61,8 @@ fn ran<R: Wait + Threads + Sync>(
 }
 
 // What a replay of no commands answers.
-fn replayed<R: Wait>(rt: &R, alloc: Global, config: &Config, requests: &[Request]) -> Told {
-    match replay(rt, alloc, config, requests, &[]) {
+fn replayed(alloc: Global, config: &Config, requests: &[Request]) -> Told {
+    match replay(alloc, config, requests, &[]) {
         Ok(_transcript) => Told::Replayed,
         Err(fault) => told_of(fault.into()),
     }
@@ -128,10 +128,10 @@ fn runs_in_range(rt: HostRuntime) {
         ran(&rt, alloc, &no_queues, &[REQUEST; 3], 1),
         Told::Executed(3),
     );
-    is(&rt, replayed(&rt, alloc, &CONFIG, &[]), Told::Replayed);
+    is(&rt, replayed(alloc, &CONFIG, &[]), Told::Replayed);
     is(
         &rt,
-        replayed(&rt, alloc, &no_queues, &[REQUEST; 3]),
+        replayed(alloc, &no_queues, &[REQUEST; 3]),
         Told::Replayed,
     );
 }
@@ -147,8 +147,8 @@ fn bad_limits(rt: HostRuntime) {
     };
     is(&rt, ran(&rt, alloc, &NOTHING, &[], 1), told);
     is(&rt, ran(&rt, alloc, &over, &[WIDE], 65), told);
-    is(&rt, replayed(&rt, alloc, &NOTHING, &[]), told);
-    is(&rt, replayed(&rt, alloc, &over, &[WIDE]), told);
+    is(&rt, replayed(alloc, &NOTHING, &[]), told);
+    is(&rt, replayed(alloc, &over, &[WIDE]), told);
 }
 
 // The first bad width comes before too many workers, and before the settings of queues.
@@ -158,7 +158,7 @@ fn bad_widths(rt: HostRuntime) {
     let requests = [REQUEST, NARROW, WIDE];
     let told = Told::Gate(GateFault::BadWidth(1));
     is(&rt, ran(&rt, alloc, &NO_HAND, &requests, 65), told);
-    is(&rt, replayed(&rt, alloc, &NO_HAND, &requests), told);
+    is(&rt, replayed(alloc, &NO_HAND, &requests), told);
     let told = Told::Gate(GateFault::BadWidth(0));
     is(&rt, ran(&rt, alloc, &CONFIG, &[WIDE], 1), told);
 }
@@ -172,11 +172,7 @@ fn too_many(rt: HostRuntime) -> Result<(), Fault> {
     is(&rt, ran(&rt, alloc, &NO_HAND, &[], u32::MAX), told);
     let requests = vec![in alloc; REQUEST; 10_001]?;
     is(&rt, ran(&rt, alloc, &NO_HAND, requests.as_slice(), 1), told);
-    is(
-        &rt,
-        replayed(&rt, alloc, &NO_HAND, requests.as_slice()),
-        told,
-    );
+    is(&rt, replayed(alloc, &NO_HAND, requests.as_slice()), told);
     Ok(())
 }
 
@@ -201,9 +197,9 @@ fn bad_queues(rt: HostRuntime) {
     );
     is(
         &rt,
-        replayed(&rt, alloc, &large_hand, &[REQUEST]),
+        replayed(alloc, &large_hand, &[REQUEST]),
         Told::Dealer(2),
     );
     is(&rt, ran(&rt, alloc, &no_room, &[], 1), Told::Queues(1));
-    is(&rt, replayed(&rt, alloc, &no_room, &[]), Told::Queues(1));
+    is(&rt, replayed(alloc, &no_room, &[]), Told::Queues(1));
 }

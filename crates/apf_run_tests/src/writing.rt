@@ -9,7 +9,6 @@ use apf_run::{
 use std::alloc::Global;
 use std::io::Write;
 use std::process::Abort;
-use std::sync::Wait;
 
 /// What is written.
 #[derive(Clone, Copy)]
@@ -61,7 +60,7 @@ impl Work for Nothing {
 
 const REQUESTS: &str = "[{\"hash\":0,\"width\":5},{\"hash\":0},{\"hash\":0,\"cancels\":0}]";
 
-fn replayed<R: Wait>(rt: &R, alloc: Global) -> Result<Transcript, Fault> {
+fn replayed(alloc: Global) -> Result<Transcript, Fault> {
     let config = Config {
         limit: 2,
         queues: 1,
@@ -72,12 +71,12 @@ fn replayed<R: Wait>(rt: &R, alloc: Global) -> Result<Transcript, Fault> {
     let requests = read_requests(alloc, REQUESTS.as_bytes())?;
     let script = "arrive 0\narrive 1\narrive 2\ncancel 2\nfinish 0\nlimit 3\nclose\n";
     let commands = read_script(alloc, script.as_bytes(), requests.len() as u32)?;
-    Ok(replay(rt, alloc, &config, requests.as_slice(), commands.as_slice())?)
+    Ok(replay(alloc, &config, requests.as_slice(), commands.as_slice())?)
 }
 
 #[test]
 fn a_transcript_without_room(rt: HostRuntime) -> Result<(), Fault> {
-    let transcript = replayed(&rt, rt.alloc())?;
+    let transcript = replayed(rt.alloc())?;
     let whole = "arrive 0 execute\n\
         arrive 1 queued 0\n\
         arrive 2 queued 0\n\

@@ -35,6 +35,20 @@ PARTS = [
     ),
 ]
 
+# the definitions that are hardest to read, each in other words
+HARDEST = [
+    ("World", "all that counts of a level at one moment: for each request whether it has not come, waits, stands or is gone, and what was decided of it; whether the level is open; its limits."),
+    ("Allowed", "the rules. It says in which world a step may be made, and `after` says what it changes. All that is said of seats and decisions follows from these two."),
+    ("IsSchedule", "the newest step stands first. So `m ∷ ms` is the step m, made after all of ms, and `later ++ earlier` cuts the steps in two at one moment."),
+    ("asked_in", "what a request asks for is what the first of its own steps says that says anything. No later step changes it."),
+    ("IsLongest", "who stepped last saw all steps. What any other token saw is how those steps began, and what came since are steps of others."),
+    ("sayings", "the steps of the Desk that are events of the queues, in their order: it lets a request enter, refuses it as full, executes it, or lets it go. No step of a Pass or a Station is one."),
+    ("NoQueueStarves", "`later ++ (stretch ++ Enter r q ∷ earlier)` cuts a history at the entry of r and at a later moment. Between the two is the stretch. At its end r still waits, and the bound is of what was dispatched in it."),
+    ("runs", "those that execute from a queue, each with what that queue is charged for it now. A dispatch adds one with its cost, a charge while it runs puts another number in its place, and a settlement takes it out."),
+    ("IsJudged", "at one moment, how far what executing requests are charged is from what they will have taken: too little for one queue, too much for one, and both at once for two."),
+    ("IsExplained", "what stands in memory, by one list of steps: the first word packs the level, each other word has the mark and the decision of who holds its slot, and what a token believes is so."),
+]
+
 USE = re.compile(r"^(?:pub )?(?:ghost )?use (Rattle\.[\w.]+?)(?:\.\{(.*)\}| as (\w+))?;?$")
 HEAD = re.compile(r"^(?:opaque |unfoldable )?(?:abbrev )?pub (?:unfoldable |record |data )*([\w'-]+|◌\S*◌)")
 WORD = re.compile(r"[A-Za-z_][\w']*")
@@ -198,7 +212,7 @@ def joined(texts):
     """The definitions of a file, a blank line between two unless both are short and a comment begins the second."""
     text = texts[0]
     for before, it in zip(texts, texts[1:]):
-        short = max(before.count("\n"), it.count("\n")) < 5 and it.startswith("--")
+        short = max(before.count("\n"), it.count("\n")) < 7 and it.startswith("--")
         text += ("\n" if short else "\n\n") + it
     return text
 
@@ -239,7 +253,11 @@ def page():
     for it in sorted(types):
         crate, name = type_name(it)
         kinds.setdefault(crate, []).append(f"`{name}`")
-    rows = "\n".join(f"| `{crate}` | {', '.join(dict.fromkeys(names))} |" for crate, names in sorted(kinds.items()))
+    lacking = {name for name, _ in HARDEST} - {name for _, name in told}
+    if lacking:
+        raise LookupError(f"{', '.join(sorted(lacking))} is not told on the page")
+    of_crates = "; ".join(f"{', '.join(dict.fromkeys(names))} of `{crate}`" for crate, names in sorted(kinds.items()))
+    hardest = "\n".join(f"- `{name}`: {words}" for name, words in HARDEST)
     head = f"""# What a reader must trust
 
 The prover checks that the code keeps its contracts. It can't check that the contracts say what you want. For that a person reads the definitions that the statements cite. This page has them all, each once, with its comment: **{len(told)} definitions, {lines} lines without comments and blank lines, in {len(files)} files**. No proof stands here, and none need be read.
@@ -248,11 +266,11 @@ The prover checks that the code keeps its contracts. It can't check that the con
 
 How to read a definition: `→` is "implies" or "a function from .. to ..", `×` is "and", `⊎` is "or", `λ x. ..` is the function of x, `Σ` is "there is". A `record` is a list of named facts that all hold. `abbrev` gives a name to what stands behind it. A list is written `x ∷ xs`, its first element and the rest. `ℕ` are the whole numbers from 0. Words that are not defined here are those of the kit's library (`Rattle.std.specs.Prelude`).
 
-The definitions speak of these types of the sources:
+The definitions speak of these types of the sources: {of_crates}.
 
-| Crate | Types |
-|---|---|
-{rows}
+Ten of them are harder than the others. In other words:
+
+{hardest}
 """
     return head + "\n" + "\n".join(body)
 

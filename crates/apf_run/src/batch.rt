@@ -1,8 +1,15 @@
 //! A level of one thread, whose slots are each used once: a batch, by the numbers of its requests.
 
-ghost use Rattle.std.specs.Prelude.{◌≡◌, ◌≤◌, ◌<◌, ◌↔◌, length, map, IfOk, IfErr, OnOk, IsTrue};
+ghost use Rattle.std.specs.Prelude.{◌≡◌, ◌≤◌, ◌<◌, ◌↔◌, length, map, true, false, IfSome, IfOk, IfErr, OnOk, IsTrue};
 ghost use Rattle.apf_words.specs.Limits.{max_limit};
-ghost use Rattle.apf_run.specs.Batches.{IsRead, AreAll, by_slot};
+ghost use Rattle.apf_gate.specs.StationCalls.{ClosesTo};
+ghost use Rattle.apf_gate.specs.StationSteps.{StationLoadsLevel};
+ghost use Rattle.apf_local.specs.Batches.{IsBatch};
+ghost use Rattle.apf_local.specs.Levels.{IsArrivalOfRenewed, IsFinish};
+ghost use Rattle.apf_local.specs.Owners.{Steps, Sets};
+ghost use Rattle.apf_local.specs.Tries.{IsReading};
+ghost use Rattle.apf_run.specs.Asks.{charged_asks};
+ghost use Rattle.apf_run.specs.Batches.{IsRead, IsLogOf, AreAll, CancelsSlot, by_slot};
 ghost use Rattle.apf_run.specs.Faults.{CanRun, IsReplayFault};
 
 use crate::asks::charged_asks_of;
@@ -60,6 +67,7 @@ impl Batch {
     ///
     /// As of `replay`.
     pub fn open(alloc: Global, config: &Config, requests: &[Request]) -> Result<Batch, ReplayFault>
+        ensures opened { IfOk result (IsBatch config.now (charged_asks requests.now)) }
         ensures count { IfOk result (λ b. length b.owner.passes ≡ length requests.now) }
         ensures settings { OnOk result (CanRun config.now requests.now 1) }
         ensures fault { IfErr result (IsReplayFault config.now requests.now 1) }
@@ -85,6 +93,7 @@ impl Batch {
     /// The request arrives. Answers `Wrong` if it came before, and the event that the log got by the arrival.
     pub fn arrive(&mut self, request: u32) -> (Answer, Option<LifeEvent>)
         ensures count { length self.new.owner.passes ≡ length self.old.owner.passes }
+        ensures arrives { (request < length self.old.places) → IsArrivalOfRenewed request self.old result.0 result.1 self.new }
     {
         let _ = &self.level;
         if !self.has(request) {
@@ -96,6 +105,8 @@ impl Batch {
     /// The request gives its seats back, if it executes. Says whether it does.
     pub fn finish(&mut self, request: u32) -> bool
         ensures count { length self.new.owner.passes ≡ length self.old.owner.passes }
+        ensures finishes { result ≡ true → IsFinish request self.old Answer.Released self.new }
+        ensures nothing { result ≡ false → self.new ≡ self.old }
     {
         self.has(request) && self.level.finish(request as usize) == Answer::Released
     }
@@ -105,6 +116,7 @@ impl Batch {
     /// `None` says that another request holds its slot, or that there is none of this number. In a batch a slot is used once.
     pub fn cancel(&mut self, request: u32) -> Option<Decision>
         ensures count { length self.new.owner.passes ≡ length self.old.owner.passes }
+        ensures cancels { (request < length self.old.places) → CancelsSlot request self.old result self.new }
     {
         if !self.has(request) {
             return None;
@@ -119,6 +131,7 @@ impl Batch {
     /// Closes the level. Says whether this close was the first.
     pub fn close(&mut self) -> Close
         ensures count { length self.new.owner.passes ≡ length self.old.owner.passes }
+        ensures closes { Steps self.old.owner.stations self.new.owner.stations (λ station station'. ClosesTo station result station') }
     {
         self.level.close()
     }
@@ -128,6 +141,7 @@ impl Batch {
         requires some { 1 ≤ limit }
         requires small { limit ≤ max_limit }
         ensures count { length self.new.owner.passes ≡ length self.old.owner.passes }
+        ensures sets { Steps self.old.owner.stations self.new.owner.stations (Sets limit result) }
     {
         self.level.set_limit(limit)
     }
@@ -135,6 +149,7 @@ impl Batch {
     /// Reads the level word.
     pub fn look(&mut self) -> LevelWord
         ensures count { length self.new.owner.passes ≡ length self.old.owner.passes }
+        ensures looks { Steps self.old.owner.stations self.new.owner.stations (λ station station'. StationLoadsLevel station result station') }
     {
         self.level.look()
     }
@@ -142,6 +157,7 @@ impl Batch {
     /// Where the request is, if there is one of this number. One that waits reads its decision.
     pub fn place(&mut self, request: u32) -> Option<Place>
         ensures count { length self.new.owner.passes ≡ length self.old.owner.passes }
+        ensures reads { IfSome result (λ place. IsReading request self.old place self.new) }
     {
         if !self.has(request) {
             return None;
@@ -174,7 +190,8 @@ impl Batch {
     ///
     /// `AllocError` if memory was refused.
     pub fn log(&self, alloc: Global) -> Result<Vec<Event>, AllocError>
-        ensures { IfOk result (λ log. IsRead self.now log.items) }
+        ensures read { IfOk result (λ log. IsRead self.now log.items) }
+        ensures whole { IfOk result (λ log. IsLogOf self.now log.items) }
     {
         let _ = &self.level;
         every_legal_history_is_in_order();

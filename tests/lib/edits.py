@@ -57,15 +57,28 @@ class Edit:
             changed[file] = text.replace(old, new)
         return changed
 
-    def places(self, read):
-        """Where it changes the code: for each pair the module's path, the type or the trait, and the function; a constant stands
-        for the functions that name it."""
-        found, texts = set(), {}
+    def placed(self, read):
+        """Each pair, with where it changes the code: the module's path, the type or the trait, and the function; a constant stands for the functions
+        that name it."""
+        found, texts = [], {}
         for file, old, new in self.pairs:
             text = texts.get(file) or read(file)
-            found |= set(places_at(file, text, text.index(old) + len(old) - len(old.lstrip())))
+            found.append(((file, old, new), places_at(file, text, text.index(old) + len(old) - len(old.lstrip()))))
             texts[file] = text.replace(old, new)
         return found
+
+    def places(self, read):
+        """Where it changes the code."""
+        return {place for _, places in self.placed(read) for place in places}
+
+    def additions(self, read):
+        """The pairs that add to a file of the code, outside all functions, and take nothing away: they change nothing that stands there."""
+        return [pair for pair, places in self.placed(read) if pair[0].startswith("src/") and pair[1] in pair[2] and not any(name for _, _, name in places)]
+
+    def changes(self, read):
+        """Where it changes the code, but for what it adds."""
+        added = self.additions(read)
+        return {place for pair, places in self.placed(read) if pair not in added for place in places}
 
 
 def module_of(file):

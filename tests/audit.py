@@ -9,7 +9,7 @@ import sys
 
 sys.path.insert(0, os.path.join(os.path.dirname(os.path.abspath(__file__)), "lib"))
 import trace
-from audit import ARRIVAL, BYTES, CUT, EVERY, NAME, WINDOW, AuditFault, Choice, json_text, read_of, text_of, trace_of, turned_away
+from audit import ARRIVAL, BYTES, CUT, EVERY, NAME, WINDOW, AuditFault, Choice, json_text, notes, read_of, text_of, trace_of, turned_away
 from audits import NOON, Logs, time_text
 from harness import TOP, Files, Tally, build, run
 
@@ -136,7 +136,7 @@ NO_JSON = [
     (b'{"\xe2\x82\n', "3: the text ends too early"),
     (b'{"\xff"}\n', "3: the bytes here are not UTF-8"),
     (b'{"a" 1}\n', "6"),
-    *((it, "") for it in (b"\n", b"\r\n", b"{}{}\n", b'{"stage":"Panic","verb":"get"},\n', b"# a comment\n", b'{"stage":"\\ud800","verb":"get"}\n', b"\xff\n", b"{\n{")),
+    *((it, "") for it in (b"\n", b"\r\n", b"{}{}\n", b"{} {}\n", b"[1e400]\n", b'"\\ud800"\n', b'"\xff"\n', b'{"stage":"Panic","verb":"get"},\n', b"# a comment\n", b'{"stage":"\\ud800","verb":"get"}\n', b"\xff\n", b"{\n{")),
 ]
 
 # An event of alice's at noon, in the order of its keys. Of a key that stands twice the last value counts, so each row has members behind it.
@@ -331,16 +331,12 @@ def example(name):
         return file.read()
 
 
-def notes(content, choice, is_cut=False):
+def notes_of(content, choice):
     """What is said of a good log on standard error."""
-    count, of = turned_away(content, choice)
-    unnamed = read_of(content, choice).unnamed
-    nameless = f"apf: events without a user's name, as of a failed login, are left out: {unnamed}\n" if unnamed else ""
-    median = "each gets the median runsFor of those of its flow that ran, or of all that ran"
-    said = f"apf: {count} of {of} requests were turned away with status 429: {median}\n" if count else ""
+    read, (away, of) = read_of(content, choice), turned_away(content, choice)
     is_choice = choice._replace(by=EVERY.by) != EVERY
     nothing = "apf: nothing matched: the options choose no request of the log\n" if is_choice and of == 0 else ""
-    return nameless + (f"{CUT}\n" if is_cut else "") + said + nothing
+    return notes(read.unnamed, read.is_cut, away, of) + nothing
 
 
 def check_choices():
@@ -351,7 +347,7 @@ def check_choices():
         is_good = not wanted.startswith("apf: ")
         words = logs.words(choice)
         got = run(program, [COMMAND, *words, files("audit.log", content), "s"])
-        told = (0, wanted.encode(), notes(content, choice).encode()) if is_good else (1, out_of(content, "s", choice).encode(), f"{wanted}\n".encode())
+        told = (0, wanted.encode(), notes_of(content, choice).encode()) if is_good else (1, out_of(content, "s", choice).encode(), f"{wanted}\n".encode())
         tally.check(f"{COMMAND} {words} of {content[-300:]!r}", got, told)
         away, of = turned_away(content, choice) if is_good else (0, 0)
         kinds |= {("turned away", away > 0), ("all were", 0 < away == of), ("good", is_good), ("some", 0 < of < content.count(b"\n")), ("none", of == 0)}
@@ -366,9 +362,15 @@ def check_bad_choices():
         (["--by", ""], "--by must be user or namespace"),
         (["--since", "noon"], f"--since {instant}"),
         (["--until", "1969-12-31T23:59:59Z"], f"--until {instant}"),
+        (["--until", ""], f"--until {instant}"),
+        (["--since", "f"], f"--since {instant}"),
         (["--since", "2026-07-01T10:00:00", "--by", "user"], f"--since {instant}"),
     ]:
         tally.check(f"{COMMAND} {words}", run(program, [COMMAND, files("audit.log", content), "s", *words]), (2, b"", f"apf: {line}\n".encode()))
+    # options before, among and behind the other words, each with its text as the next word or behind `=`: without one of them there would be other requests
+    words = [COMMAND, "--by", "namespace", files("audit.log", b"".join(rows_log())), "--user=a*", "s", "--until", time_text(NOON + 2 * 10**6), "--since", time_text(NOON + 10**6)]
+    said = b"apf: 1 of 1 requests were turned away with status 429: each gets the median runsFor of those of its flow that ran, or of all that ran\n"
+    tally.check("options everywhere", run(program, words), (0, b'{"schema":"s","distinguisher":"y","arrivesAt":0,"runsFor":0}\n', said))
     missing = f"{files.folder.name}/missing.log"
     absent = f"apf: cannot read audit log: {missing}: there is no such file\n"
     tally.check(f"{COMMAND} of a file that is not there", run(program, [COMMAND, missing, "s"]), (1, b"", absent.encode()))
@@ -381,7 +383,7 @@ def check_bad_choices():
 def check_unnamed():
     """Events without a user's name are left out, counted, and said in one line."""
     content = (event_of(without=("user",)) + event_of() + event_of('"user":{}') + event_of('"stage":"Panic"', without=("user",))).encode()
-    tally.check(f"{COMMAND} of events without a name", printed(content, "s"), (0, read(content, "s").encode(), notes(content, EVERY).encode()))
+    tally.check(f"{COMMAND} of events without a name", printed(content, "s"), (0, read(content, "s").encode(), notes_of(content, EVERY).encode()))
 
 
 def check_late():

@@ -169,6 +169,8 @@ def check_worked_bounds():
     ):
         status, out, err = printed("simulate", config, objects, 0, more=["--bound"])
         tally.check(f"worked by hand: {line}", (status, out.splitlines()[-1:], err), (0, [line.encode()], b""))
+        paths = (os.path.join(files.folder.name, name) for name in ("config", "trace"))
+        tally.check(f"asked for before the files: {line}", run(program, ["simulate", "--bound", *paths, "0"]), (status, out, err))
 
 
 def check_met_bound():

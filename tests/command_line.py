@@ -17,6 +17,9 @@ files = Files()
 # what is printed, to the letter
 for words, out in [
     (["hash", "", ""], b"987ab3ff9c0b346e\n"),
+    # the first 8 bytes of the SHA-256 digest of the schema, a zero byte and the distinguisher, read little-endian
+    (["hash", "", "system:node"], b"7d5a8f2d7d48b7bf\n"),
+    (["hash", "--", "-a", "--b"], b"eeaaaa636d0200f0\n"),
     (["deal", "8", "3", "0"], b"0 1 2\n"),
     (["deal", "8", "3", "100"], b"4 6 1\n"),
     (["deal", "8", "3", "335"], b"7 6 5\n"),
@@ -34,8 +37,12 @@ tally.check("deal 16 15 0", (status, out, err), (0, b"0 1 2 3 4 5 6 7 8 9 10 11 
 # dealer faults of a command line
 for words, line in [
     (["deal", "0", "1", "0"], b"apf: dealer fault 1: not positive\n"),
+    (["deal", "0", "0", "0"], b"apf: dealer fault 1: not positive\n"),
     (["deal", "3", "4", "0"], b"apf: dealer fault 2: hand too large\n"),
     (["deal", "67108865", "1", "0"], b"apf: dealer fault 3: deck too large\n"),
+    # the largest numbers that a command line takes, each as it is: a hand of one more than the deck is too large
+    (["deal", "4294967295", "4294967295", "18446744073709551615"], b"apf: dealer fault 3: deck too large\n"),
+    (["deal", "4294967294", "4294967295", "18446744073709551615"], b"apf: dealer fault 2: hand too large\n"),
     (["deal", "16", "16", "0"], b"apf: dealer fault 4: too much entropy\n"),
     (["deal", "64", "11", "0"], b"apf: dealer fault 4: too much entropy\n"),
 ]:
@@ -258,6 +265,19 @@ level = files("level.json", '{"limit":1}')
 for name in ("a", "z", "0", "9", ".", "workload-low", "a.b-9", "a" * 253):
     done = subprocess.run([program, "serve", "--name", name, "--slots=3", level], input=b"metrics\n", capture_output=True, timeout=60)
     tally.check(f"a level named {name!r}", (done.returncode, f'"{name}"'.encode() in done.stdout, done.stderr), (0, True, b""))
+
+# the slots of a level, at their ends and where they are left out, by its first line
+for words, slots in ((["--slots", "1"], 1), (["--slots", "10000"], 10_000), (["--slots", "007"], 7), ([], 10_000)):
+    status, out, err = run(program, ["serve", level, *words])
+    tally.check(f"a level with {words}", (status, out.split(b"\n")[0], err), (0, b"serve 1 slots %d limit 1 queues 64 hand 8 length 50 queue" % slots, b""))
+
+# a level's options before its config, each with its text as the next word or behind `=`. Charged by seats, the wide request that came first is dispatched first
+two = files("two.json", '{"limit":1,"queues":2,"handSize":1}')
+lines = ['arrive 0 {"hash":0}', 'arrive 1 {"hash":0,"width":3}', 'arrive 2 {"hash":1,"cost":7}', 'arrive 3 {"hash":0}', "finish 0 300000", "metrics"]
+answers = ["serve 1 slots 3 limit 1 queues 2 hand 1 length 50 queue", "arrive 0 execute", "arrive 1 queued 0", "arrive 2 queued 1", "fault 4 bad number", "finish 0", "dispatch 1 queue 0"]
+status, out, err = run(program, ["serve", "--name", "a.b-9", "--slots=3", "--charge=seats", two], "".join(f"{it}\n" for it in lines).encode())
+told = out.decode().split("\n")
+tally.check("a level's options before its config", (status, told[: len(answers)], any('priority_level="a.b-9"' in it for it in told), err), (0, answers, True, b""))
 
 # what a terminal would obey is escaped where a word is told
 for word, told in [("h\x1b[31m", b"'h\\u001b[31m'"), ("\x7f\u0085", b"'\\u007f\\u0085'"), ("\u202eh", b"'\\u202eh'"), ("\u2066", b"'\\u2066'")]:

@@ -197,7 +197,13 @@ def check_examples():
     )
     for flow, text in (("alice", alice), ("users", ""), ("", "")):
         note = "" if text else f'apf: nothing matched: no flow of the trace has the distinguisher "{flow}"\n'
-        tally.check(f"hands of {flow!r}, by hand", printed("hands", [config.encode(), content.encode()], f"--flow={flow}"), (0, text.encode(), note.encode()))
+        want = (0, text.encode(), note.encode())
+        tally.check(f"hands of {flow!r}, by hand", printed("hands", [config.encode(), content.encode()], f"--flow={flow}"), want)
+        tally.check(f"hands of {flow!r}, the flow said first", run(program, ["hands", "--flow", flow, *paths_of([config.encode(), content.encode()])]), want)
+    # what requests are charged, said first
+    _, configs, content, _, text = worked.SIDE_BY_SIDE[0]
+    paths = paths_of([it.encode() for it in [*configs, content]])
+    tally.check("compare by hand, the charge said first", run(program, ["compare", "--charge", "seats", *paths, "0"]), (0, (worked.COMPARED + text).encode(), b""))
 
 
 def check_patience(command, levels):
@@ -220,6 +226,7 @@ def check_patience(command, levels):
     for text in ("-1", "-1s", "-s"):
         status, out, err = run(program, [command, *missing, text])
         tally.check(f"{command} with the patience {text!r}", (status, out, err[:7]), (2, b"", b"error: "))
+        tally.check(f"{command} with the patience {text!r} behind --", run(program, [command, "--", *missing, text]), fault)
     with open(os.path.join(files.folder.name, "file 0"), "rb") as full:
         done = subprocess.run([program, command, "-", *missing[1:], "15 s"], stdin=full, capture_output=True)
         tally.check(f"{command} with a bad patience reads no byte", (done.returncode, done.stdout, done.stderr, full.tell()), (*fault, 0))

@@ -256,6 +256,20 @@ for count, known in ((0, "there are no requests"), (1, "the only request is 0"))
     tally.check(f"{count} requests", explain(contents), want)
     tally.check(f"the model of {count} requests", answer(NAMES, contents), want)
 
+# what stands in the line of a fault, behind lines that are good, of three requests
+for content, line, fault in (
+    (b"close\nfinish 00\nclose\n", f'2: "finish 00" is no command: {FORMS}', "3 at line 2: bad line"),
+    (b"\n", f"1: the line is empty: {FORMS}", "3 at line 1: bad line"),
+    (b"arrive 2\narrive 3\n", "2: there is no request 3: the requests are 0 to 2", "4 at line 2: unknown request"),
+    (b"close\nclose\nlimit 10001\n", "3: the limit is 10001: it must be from 1 to 10000", "6 at line 3: bad limit"),
+    (b"close\nclose", "2: the last line has no LF at its end", "2 at line 2: truncated"),
+):
+    contents = [CONFIG, b'[{"hash":0},{"hash":0},{"hash":0}]', content]
+    want = (1, f"script.txt:{line}\n".encode(), f"apf: script fault {fault}\n".encode())
+    tally.check(f"{content!r} of three requests", explain(contents), want)
+    tally.check(f"the model of {content!r} of three requests", answer(NAMES, contents), want)
+    tally.check(f"replay of {content!r} of three requests", run(program, ["replay", *NAMES], cwd=files.folder.name), (1, b"", want[2]))
+
 # good files, and the first of two faults by the order of the files
 for name, contents in (
     ("good files", WHOLE),

@@ -87,6 +87,9 @@ for content, line, explained in FAULTS:
     told = (1, f"{bad}{explained}\n".encode(), f"apf: {line}\n".encode())
     for name, by in (("", run), (" at a terminal", lambda program, words: at_terminal(words))):
         tally.check(f"explain of {content}{name}", by(program, ["explain", bad, requests, script]), told)
+    # the commands that say so anyway do at a terminal, too
+    words = NEW["simulate"](bad)
+    tally.check(f"simulate of {content} at a terminal", at_terminal(words), refused(f"apf: {line}", bad + explained))
 other = files("other.json", '{"limit":10001}')
 files("bad.json", '{"limit":0}')
 lines = [f"apf: config fault 5: bad value of limit", f"{bad}: limit is 0: {WHOLE} 1 to 10000", f"{other}: limit is 10001: {WHOLE} 1 to 10000"]

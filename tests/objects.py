@@ -529,6 +529,26 @@ for name, more, line in (
     got = run(program, ["match", objects, "--log", behind(more)])
     tally.check(name, same(got, matched + line.encode()), (0, True, b""))
 
+# ---- what is found in usual lines, and in others: numbers that are not whole, below 0, and larger than 64 bits hold
+
+WHEN = '"stage":"ResponseComplete","requestURI":"/","requestReceivedTimestamp":"2026-11-25T12:00:00Z","stageTimestamp":"2026-11-25T12:00:00Z"'
+FOUND = [
+    '{"verb":"get","user":{"username":"u","groups":["a",7,"b"]},"responseStatus":{"code":429},%s}',
+    ' {"verb":"watch","user":{"username":"u","groups":["a","b"]},"responseStatus":{"code":1,"code":429},%s,"\\u0076erb":"get"} ',
+    '{"verb":"get","user":{"username":"u","groups":["a","b"]},"responseStatus":{"code":429},%s,"more":1.5}',
+    '{"verb":"get","user":{"username":"u","groups":["a",-1,"b"]},"responseStatus":{"code":429},%s}',
+    '{"verb":"get","user":{"username":"u","groups":["a","b"]},"responseStatus":{"code":429},%s,"more":18446744073709551616}',
+]
+log = files("log.jsonl", "".join(f"{it % WHEN}\n" for it in FOUND))
+for group, schema in (("a", "of-group"), ("b", "of-group"), ("7", "catch-all"), ("-1", "catch-all")):
+    rules = [{"subjects": [{"kind": "Group", "group": {"name": group}}], "nonResourceRules": [{"verbs": ["get"], "nonResourceURLs": ["/"]}]}]
+    spec = {"priorityLevelConfiguration": {"name": "catch-all"}, "distinguisherMethod": {"type": "ByUser"}, "rules": rules}
+    objects = files("objects.json", json.dumps({"apiVersion": VERSIONS[0], "kind": "FlowSchema", "metadata": {"name": "of-group"}, "spec": spec}))
+    want = "".join(f'{number} {schema} catch-all "u"\n' for number in range(1, len(FOUND) + 1))
+    tally.check(f"lines with the group {group}", run(program, ["match", objects, "--log", log]), (0, want.encode(), b""))
+status, out, err = run(program, ["trace", log, "s"])
+tally.check("lines with the code 429", (status, out.count(b"\n"), err.startswith(b"apf: 5 of 5 requests were turned away with status 429: ")), (0, len(FOUND), True))
+
 # ---- single requests, with what did not match
 
 for turn in range(300):

@@ -240,6 +240,28 @@ def check_sizes():
     tally.check(f"the picture of 1,000 requests: {size} bytes", size < 300_000, True)
 
 
+NO_TIME = b"apf: --%s must be a number with m, s, ms or us behind it, as 1.5s, or a whole number of microseconds: at most 200000000 seconds\n"
+BEFORE = b"apf: --to is before --from\n"
+# a time as a command line has it, and its microseconds, None where it is none
+TIMES = [
+    ("0", 0),
+    ("1000000001", 1_000_000_001),
+    ("200000000000000us", 200_000_000_000_000),
+    ("200000000000001us", None),
+    ("200000000s", 200_000_000_000_000),
+    ("200000001s", None),
+    ("3333333.2m", 199_999_992_000_000),
+    ("3333333.5m", None),
+    ("90.5s", 90_500_000),
+    ("2s", 2_000_000),
+    ("18446744073709551616", None),
+    ("18446744073709551615m", None),
+    ("-1", None),
+    ("1 s", None),
+    ("x", None),
+    ("", None),
+]
+
 # rows by hand, by seats: a level, a trace, a patience, and how many times each of some parts stands in the picture
 
 ROOM = b'{"limit":100,"queues":2,"handSize":1}'
@@ -546,12 +568,30 @@ def check_stretches():
     empty = stretched(SMALL, CRAWLED, 90, "seats", "--from", "1m")
     tally.check("a stretch behind the end", (empty[0], empty[2], empty[1].count(b">0 requests of 0 flows on 2 seats</title>")), (0, b"", 1))
     for words, line in (
-        (["--from", "x"], b"apf: --from must be a number with m, s, ms or us behind it, as 1.5s, or a whole number of microseconds: at most 200000000 seconds\n"),
-        (["--to", "200000001s"], b"apf: --to must be a number with m, s, ms or us behind it, as 1.5s, or a whole number of microseconds: at most 200000000 seconds\n"),
-        (["--from", "2s", "--to", "1s"], b"apf: --to is before --from\n"),
+        (["--from", "x"], NO_TIME % b"from"),
+        (["--to", "200000001s"], NO_TIME % b"to"),
+        (["--to", "x", "--from", "1s"], NO_TIME % b"to"),
+        (["--from", "2s", "--to", "1s"], BEFORE),
     ):
         tally.check(f"a picture with {words}", stretched(SMALL, CRAWLED, 90, None, *words), (2, b"", line))
+    check_times()
     check_long()
+
+
+def check_times():
+    """How times are read, by hand: what is none is refused, and the end of a stretch may be its beginning and nothing before it."""
+    words = ["picture", files("config", SMALL), files("trace", CRAWLED), "90"]
+    for text, time in TIMES:
+        if time is None:
+            for option in ("from", "to"):
+                tally.check(f"--{option} {text!r}", run(program, [*words, f"--{option}={text}"]), (2, b"", NO_TIME % option.encode()))
+            continue
+        tally.check(f"--from {text!r} --to {time}", run(program, [*words, "--from", text, "--to", str(time)])[0], 0)
+        tally.check(f"--to {text!r} --from {time}", run(program, [*words, f"--to={text}", f"--from={time}"])[0], 0)
+        if time:
+            tally.check(f"--from {text!r} --to {time - 1}", run(program, [*words, "--from", text, "--to", str(time - 1)]), (2, b"", BEFORE))
+        if time < 2 * 10**14:
+            tally.check(f"--from {time + 1} --to {text!r}", run(program, [*words, "--from", str(time + 1), "--to", text]), (2, b"", BEFORE))
 
 
 def check_long():

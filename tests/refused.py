@@ -25,8 +25,8 @@ def level(name, **limited):
     return {**API, "kind": "PriorityLevelConfiguration", "metadata": {"name": name}, "spec": {"type": "Limited", "limited": limited}}
 
 
-def schema(name, of):
-    return {**API, "kind": "FlowSchema", "metadata": {"name": name}, "spec": {"priorityLevelConfiguration": {"name": of}}}
+def schema(name, of, **spec):
+    return {**API, "kind": "FlowSchema", "metadata": {"name": name}, "spec": {"priorityLevelConfiguration": {"name": of}, **spec}}
 
 
 def cluster_file(name, *items):
@@ -35,6 +35,15 @@ def cluster_file(name, *items):
 
 QUEUE, REJECT = {"limitResponse": {"type": "Queue"}}, {"limitResponse": {"type": "Reject"}}
 small = cluster_file("small.json", level("low", **QUEUE), level("high", **REJECT), level("none", **QUEUE, borrowingLimitPercent=5), schema("all", "low"), schema("lost", "gone"))
+# and one of which each number is known: a level that queues, one that rejects, whose name has a dot, and three schemas, one of which dangles
+known = cluster_file(
+    "known.json",
+    level("workload-low", nominalConcurrencyShares=100, lendablePercent=90, limitResponse={"type": "Queue", "queuing": {"queues": 128, "handSize": 6, "queueLengthLimit": 50}}),
+    level("node.high", nominalConcurrencyShares=40, borrowingLimitPercent=50, **REJECT),
+    schema("service-accounts", "workload-low", matchingPrecedence=9000, distinguisherMethod={"type": "ByUser"}),
+    schema("nodes", "node.high", matchingPrecedence=500),
+    schema("lost", "gone", matchingPrecedence=700),
+)
 empty = files("audit.log", b"")
 gone = f"{empty}.gone"
 
@@ -43,11 +52,11 @@ def changed(*texts, objects=small, log=empty, words=()):
     return run(program, ["cluster", objects, log, "1s", *words, *(word for it in texts for word in ("--set", it))])
 
 
-def refused(text, reason, told=None):
+def refused(text, reason, told=None, objects=small):
     """The change of this text is refused for this reason, whatever stands behind it."""
     want = (2, b"", f"apf: --set {told or text}: {reason}\n".encode())
-    tally.check(f"refused: {text!r}", changed(text), want)
-    tally.check(f"refused behind another: {text!r}", changed("user:bob.rate=1x", text, "no"), want)
+    tally.check(f"refused: {text!r}", changed(text, objects=objects), want)
+    tally.check(f"refused behind another: {text!r}", changed("user:bob.rate=1x", text, "no", objects=objects), want)
 
 
 # ---- a text that is no change
@@ -57,11 +66,11 @@ NUMBER = "a whole number below 4294967296, as 20, or one behind * or +, as *2 or
 RATE = "0, or a whole number below 4294967296 with x behind it, as 2x, or one behind * or +, as *2 or +1"
 for text in ("", "low", "low.shares", "schema:all.level"):
     refused(text, "there is no =: it must be KEY=VALUE")
-for text in ("low=5", "=", "low.share=5", "server.rate=1x", "schema:all.shares=5", "user:bob.shares=5", ".=1"):
+for text in ("low=5", "shares=1", "=", "low.share=5", "low.Shares=", "low.shares==1", "low.rate=1x", "server.rate=1x", "schema:all.shares=5", "schema:all.seats=1", "user:bob.shares=5", ".=1"):
     key = text.rpartition("=")[0]
     refused(text, f'there is no key "{key}": {KEY}')
 for key in ("low.shares", "low.lendable", "low.queues", "low.hand", "low.length", "low.seats", "schema:all.precedence", "server.seats"):
-    for value in ("", "x", "-1", "1.5", " 5", "4294967296", "none", "*", "+-1", "2x"):
+    for value in ("", "x", "-1", "1.5", " 5", "1 ", "4294967296", "none", "*", "+-1", "++1", "2x"):
         refused(f"{key}={value}", f'{key} is "{value}": it must be {NUMBER}')
 for value in ("", "None", "5%"):
     refused(f"low.borrowing={value}", f'low.borrowing is "{value}": it must be {NUMBER}, or none')
@@ -70,7 +79,7 @@ for value in ("", "queue", "Exempt"):
 for value in ("", "ByUser", "nothing"):
     refused(f"schema:all.by={value}", f'schema:all.by is "{value}": it must be user, namespace or none')
 for key in ("schema:all.rate", "user:bob.rate"):
-    for value in ("", "2", "x", "-1x", "1.5x", "none"):
+    for value in ("", "1", "2", "00", "x", "*2x", "-1x", "1.5x", "none"):
         refused(f"{key}={value}", f'{key} is "{value}": it must be {RATE}')
 
 # ---- what is not there, and what has no such setting
@@ -94,22 +103,135 @@ for value in ("*2", "+20"):
 # ---- numbers outside their bounds, also those that are meant by what stands there
 
 SHARES = 2147483647
-for text, what, number, low, high in (
-    ("low.shares=2147483648", "the number of the level's shares", SHARES + 1, 0, SHARES),
-    ("low.shares=*4294967295", "the number of the level's shares", 30 * 4294967295, 0, SHARES),
-    ("low.lendable=101", "how many per cent of its nominal limit the level lends at most", 101, 0, 100),
-    ("none.borrowing=+2147483643", "how many per cent of its nominal limit the level borrows at most", SHARES + 1, 0, SHARES),
-    ("low.queues=0", "the number of the level's queues", 0, 1, 1024),
-    ("low.queues=*17", "the number of the level's queues", 64 * 17, 1, 1024),
-    ("low.hand=+8", "the number of queues that a flow is dealt", 16, 1, 15),
-    ("low.length=*0", "the number of requests that may wait in a queue", 0, 1, 10000),
-    ("low.seats=1000001", "the nominal limit of the level", 1000001, 0, 1000000),
-    ("schema:all.precedence=+9001", "the precedence of the schema", 10001, 1, 10000),
-    ("schema:all.rate=1001x", "how often a request of the schema comes", 1001, 0, 1000),
-    ("user:bob.rate=*1001", "how often a request of the user comes", 1001, 0, 1000),
-    ("server.seats=*0", "the number of the server's seats", 0, 1, 1000000),
+# what each number is called, and between which numbers it is
+NAMED = {
+    "shares": ("the number of the level's shares", 0, SHARES),
+    "lendable": ("how many per cent of its nominal limit the level lends at most", 0, 100),
+    "borrowing": ("how many per cent of its nominal limit the level borrows at most", 0, SHARES),
+    "queues": ("the number of the level's queues", 1, 1024),
+    "hand": ("the number of queues that a flow is dealt", 1, 15),
+    "length": ("the number of requests that may wait in a queue", 1, 10000),
+    "seats": ("the nominal limit of the level", 0, 1000000),
+    "precedence": ("the precedence of the schema", 1, 10000),
+    "schema's rate": ("how often a request of the schema comes", 0, 1000),
+    "user's rate": ("how often a request of the user comes", 0, 1000),
+    "server's seats": ("the number of the server's seats", 1, 1000000),
+}
+
+
+def named(key):
+    name, _, setting = key.rpartition(".")
+    kind = "server" if key == "server.seats" else name.partition(":")[0] if setting == "rate" else ""
+    return NAMED[f"{kind}'s {setting}" if kind else setting]
+
+
+def outside(text, number, objects=small):
+    """The change of this text would make a number that is not between its bounds."""
+    what, low, high = named(text.rpartition("=")[0])
+    refused(text, f"{what} would be {number}: it must be a whole number from {low} to {high}", objects=objects)
+
+
+for text, number in (
+    ("low.shares=2147483648", SHARES + 1),
+    ("low.shares=*4294967295", 30 * 4294967295),
+    ("low.lendable=101", 101),
+    ("none.borrowing=+2147483643", SHARES + 1),
+    ("low.queues=0", 0),
+    ("low.queues=*17", 64 * 17),
+    ("low.hand=+8", 16),
+    ("low.length=*0", 0),
+    ("low.seats=1000001", 1000001),
+    ("schema:all.precedence=+9001", 10001),
+    ("schema:all.rate=1001x", 1001),
+    ("user:bob.rate=*1001", 1001),
+    ("server.seats=*0", 0),
 ):
-    refused(text, f"{what} would be {number}: it must be a whole number from {low} to {high}")
+    outside(text, number)
+for text, number in (
+    ("workload-low.shares=2147483648", 2147483648),
+    ("workload-low.shares=*4294967295", 429496729500),
+    ("workload-low.lendable=+11", 101),
+    ("workload-low.queues=0", 0),
+    ("workload-low.queues=*9", 1152),
+    ("workload-low.hand=16", 16),
+    ("workload-low.hand=4294967295", 4294967295),
+    ("workload-low.length=10001", 10001),
+    ("node.high.seats=1000001", 1000001),
+    ("schema:nodes.precedence=0", 0),
+    ("schema:nodes.precedence=+9501", 10001),
+    ("schema:nodes.rate=+1000", 1001),
+    ("user:ann.rate=1001x", 1001),
+    ("server.seats=0", 0),
+    ("server.seats=*1667", 1000200),
+):
+    outside(text, number, known)
+for text in ("server.seats=*1666", "exempt.shares=5", "exempt.lendable=5"):
+    tally.check(f"not refused: {text}", changed(text, objects=known)[::2], (0, b""))
+
+# ---- which number stands there behind some changes: one more that adds to it, and goes beyond its bound, is told the sum. None stands for what the level has not
+
+
+def stands(changes, key, number):
+    what, low, high = named(key)
+    name, _, setting = key.rpartition(".")
+    reason = f"{what} would be {(number or 0) + high + 1}: it must be a whole number from {low} to {high}"
+    if number is None:
+        free = f'the level "{name}" borrows without a limit, so there is no number for * and +: it must be a whole number, or none'
+        reason = free if setting == "borrowing" else f'the level "{name}" rejects, so it has no queues: with the response Queue it has some'
+    text = f"{key}=+{high + 1}"
+    tally.check(f"what stands at {key} behind {changes}", changed(*changes, text, objects=known), (2, b"", f"apf: --set {text}: {reason}\n".encode()))
+
+
+SETTINGS = ("shares", "lendable", "borrowing", "queues", "hand", "length")
+LOW, HIGH = (100, 90, None, 128, 6, 50), (40, 0, 50, None, None, None)
+every = ["workload-low.shares=*2", "workload-low.lendable=+10", "workload-low.borrowing=25", "workload-low.borrowing=*4", "workload-low.queues=*8", "workload-low.hand=15"]
+every.append("workload-low.length=10000")
+queues = ["node.high.response=Queue", "node.high.hand=+1", "node.high.borrowing=none"]
+same = [*queues, "workload-low.response=Queue"]
+for changes, name, numbers in (
+    ([], "workload-low", LOW),
+    ([], "node.high", HIGH),
+    (every, "workload-low", (200, 100, 100, 1024, 15, 10000)),
+    (every, "node.high", HIGH),
+    (queues, "node.high", (40, 0, None, 64, 9, 50)),
+    (same, "workload-low", LOW),
+    ([*same, "workload-low.response=Reject"], "workload-low", (100, 90, None, None, None, None)),
+):
+    for setting, number in zip(SETTINGS, numbers):
+        stands(changes, f"{name}.{setting}", number)
+more = ["workload-low.seats=+20"]
+twice = [*more, "workload-low.seats=*2"]
+often = ["user:ann.rate=3x", "schema:nodes.rate=2x", "user:bob.rate=0"]
+oftener = [*often, "user:ann.rate=*5", "schema:nodes.rate=+8"]
+for changes, numbers in (
+    # 100, 40, 5 and no shares of 600 seats: 413.8, 165.5 and 20.7, rounded up
+    ([], {"workload-low.seats": 414, "node.high.seats": 166, "catch-all.seats": 21, "exempt.seats": 0}),
+    (more, {"workload-low.seats": 434, "node.high.seats": 166}),
+    (twice, {"workload-low.seats": 868}),
+    ([*twice, "server.seats=*2"], {"workload-low.seats": 868, "node.high.seats": 332}),
+    (["workload-low.seats=0"], {"workload-low.seats": 0}),
+    ([], {"schema:nodes.precedence": 500, "schema:service-accounts.precedence": 9000}),
+    (["schema:nodes.by=namespace", "schema:nodes.precedence=+20"], {"schema:nodes.precedence": 520, "schema:service-accounts.precedence": 9000}),
+    (["schema:lost.level=node.high"], {"schema:lost.precedence": 700}),
+    (["schema:nodes.precedence=5"], {"schema:nodes.precedence": 5}),
+    ([], {"user:ann.rate": 1, "schema:nodes.rate": 1}),
+    (often, {"user:ann.rate": 3, "user:bob.rate": 0, "user:eve.rate": 1, "schema:nodes.rate": 2, "schema:service-accounts.rate": 1}),
+    (oftener, {"user:ann.rate": 15, "schema:nodes.rate": 10}),
+    ([*oftener, "user:ann.rate=1000x"], {"user:ann.rate": 1000, "schema:nodes.rate": 10}),
+    (["user:ann.rate=*3", "user:bob.rate=0x"], {"user:ann.rate": 3, "user:bob.rate": 0}),
+    # how a number is written
+    (["workload-low.shares=200", "workload-low.queues=*2"], {"workload-low.shares": 200, "workload-low.queues": 256}),
+    (["workload-low.length=+20", "workload-low.lendable=007"], {"workload-low.length": 70, "workload-low.lendable": 7}),
+    (["node.high.borrowing=*0"], {"node.high.borrowing": 0}),
+    (["server.seats=+100"], {"server.seats": 700}),
+    # one after the other
+    (["server.seats=5", "server.seats=*2"], {"server.seats": 10}),
+    (["server.seats=*2", "server.seats=5"], {"server.seats": 5}),
+):
+    for key, number in numbers.items():
+        stands(changes, key, number)
+for texts, text, reason in ((("gone.shares=1", ""), "gone.shares=1", f'there is no level "gone": {LISTS}'), (("server.seats=7", ""), "", "there is no =: it must be KEY=VALUE")):
+    tally.check(f"the first that is refused of {texts}", changed(*texts, objects=known), (2, b"", f"apf: --set {text}: {reason}\n".encode()))
 
 # ---- characters that a terminal would obey
 

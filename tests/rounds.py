@@ -47,6 +47,8 @@ for name, config, requests, workers, rounds, want in [
     ("all fit", one_queue(1000), [plain] * 100, 8, 50, book("open", 5000, 0, 0, 0, 0, 0, 0, 0, 0)),
     ("all fit, Reject", one_queue(1000, limitResponse="Reject"), [plain] * 100, 8, 50, book("open", 5000, 0, 0, 0, 0, 0, 0, 0, 0)),
     ("two rounds", one_queue(1), [plain] * 3, 1, 2, book("open", 6, 0, 0, 0, 0, 0, 0, 0, 0)),
+    ("each round executes all", one_queue(2), [plain, {"hash": 1, "width": 2}, {"hash": 2, "work": 7}], 1, 3, book("open", 9, 0, 0, 0, 0, 0, 0, 0, 0)),
+    ("each round executes all, Reject", one_queue(3, limitResponse="Reject"), [plain, {"hash": 0, "width": 3}], 1, 3, book("open", 6, 0, 0, 0, 0, 0, 0, 0, 0)),
     ("nobody", one_queue(1), [], 64, 1_000_000, book("open", 0, 0, 0, 0, 0, 0, 0, 0, 0)),
     ("more workers than requests", one_queue(1), [plain], 64, 7, book("open", 7, 0, 0, 0, 0, 0, 0, 0, 0)),
     # who did not come yet is nobody, and who came is over when one worker comes to the next request
@@ -143,6 +145,16 @@ for number in range(DRAWN):
 print(f"{DRAWN} runs took {time.monotonic() - began:.1f} s; runs that had some: {seen}")
 tally.check("the draws reach a closed level", seen["closed"] > 0, True)
 
+# crowds of four workers at two seats: of nobody who is named all execute, and each of the others says what it must
+alike = [{"hash": number} for number in range(8)]
+in_turn = [{**it, "cancels": (number + 1) % 8, **({"width": 2} if number % 3 == 2 else {})} for number, it in enumerate(alike)]
+closing = [plain, {"hash": 1, "cancels": 0}, {"hash": 2, "closes": True}, {"hash": 3}]
+for name, requests in (("alike", alike), ("each of which names another one", in_turn), ("of which one closes the level", closing)):
+    status, out, err = ran(one_queue(2), requests, 4, 2000)
+    tally.check(f"2,000 rounds of requests {name}", (status, faults(one_queue(2), requests, 4, 2000, out.decode(errors="replace")), err), (0, [], b""))
+    if requests is alike:
+        tally.check("16,000 are executed", out.split(b"\n")[1], b"executed 16000 rejected 0 cancelled 0 undecided 0")
+
 # What becomes of a crowd at one seat is a race. A full machine runs one worker at a time, so its requests work longer until one of them is met at work.
 alone = [{"hash": number % 3} for number in range(8)]
 # those of a slot come one after another, each request naming another one
@@ -187,9 +199,11 @@ config, requests = files("config", '{"limit":1}'), files("requests", "[]")
 for more in (["--rounds", "0"], ["--rounds", "1000001"], ["--rounds", "-1"], ["--rounds", "x"], ["--rounds", "1.5"], ["--rounds", ""], ["--rounds"], ["--rounds", "2", "--rounds", "3"], ["--round", "2"]):
     status, out, err = run(program, ["run", config, requests, "1", *more])
     tally.check(f"{' '.join(more)}", (status, out, err != b""), (2, b"", True))
-for more in (["--rounds", "1"], ["--rounds", "1000000"], ["--rounds=5"], ["--rounds", "007"]):
-    tally.check(f"{' '.join(more)}", run(program, ["run", config, requests, "1", *more]), (0, book("open", 0, 0, 0, 0, 0, 0, 0, 0, 0), b""))
-tally.check("rounds before the files", run(program, ["run", "--rounds", "3", config, requests, "1"])[0], 0)
+one = files("one", '[{"hash":0}]')
+for more, rounds in ((["--rounds", "1"], 1), (["--rounds", "1000000"], 1_000_000), (["--rounds=5"], 5), (["--rounds", "007"], 7)):
+    tally.check(f"{' '.join(more)} of nobody", run(program, ["run", config, requests, "1", *more]), (0, book("open", 0, 0, 0, 0, 0, 0, 0, 0, 0), b""))
+    tally.check(f"{' '.join(more)}", run(program, ["run", config, one, "1", *more]), (0, book("open", rounds, 0, 0, 0, 0, 0, 0, 0, 0), b""))
+tally.check("rounds before the files", run(program, ["run", "--rounds", "3", config, one, "1"]), (0, book("open", 3, 0, 0, 0, 0, 0, 0, 0, 0), b""))
 tally.check("help names the option", re.search(rb"--rounds <N>", run(program, ["run", "--help"])[1]) is not None, True)
 
 # faults of a run in rounds: a dealer that can't deal, and files

@@ -380,10 +380,11 @@ def check_words(command):
         paths.append("0")
         # what requests are charged is judged behind the patience, and before any file is read
         missing = [os.path.join(files.folder.name, "missing")] * 2
-        for charge in ("", "Time", "seat", "time,seats", "width"):
+        for charge in ("", "Time", "seat", "time,seats", "width", "x"):
             for words in (paths, [*missing, "0"]):
-                status, out, err = run(program, [command, *words, f"--charge={charge}"])
-                tally.check(f"{command} charged by {charge!r}", (status, out, err), (2, b"", b"apf: --charge must be time or seats\n"))
+                for option in ([f"--charge={charge}"], ["--charge", charge]):
+                    got = run(program, [command, *words, *option])
+                    tally.check(f"{command} charged by {option}", got, (2, b"", b"apf: --charge must be time or seats\n"))
         status, out, err = run(program, [command, *missing, "x", "--charge=x"])
         tally.check(f"{command} with a bad patience and a bad charge", (status, out, err), (2, b"", f"{simulation.BAD_PATIENCE}\n".encode()))
     for words in (paths[:-1], [*paths, "0"]):

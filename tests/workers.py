@@ -46,6 +46,11 @@ for name, config, requests, workers, want in [
     ("one cancels itself", one_queue(1), [{"hash": 0, "cancels": 0}], 1, book("open", 1, 0, 0, 0, 0, 0, 0, 0, 0)),
 ]:
     tally.check(name, ran(config, requests, workers), (0, want, b""))
+# of two workers each has every other request, in their order. Who names a later one of its worker cancels it, and who names an earlier one comes too late
+for early, late in ((0, 2), (0, 4), (2, 4), (1, 3), (1, 5), (3, 5)):
+    for one, other, when, want in ((early, late, "a later", (5, 0, 1)), (late, early, "an earlier", (6, 0, 0))):
+        requests = [{"hash": 0, "cancels": other} if number == one else plain for number in range(6)]
+        tally.check(f"request {one} names {when} one of its worker", ran(one_queue(6), requests, 2), (0, book("open", *want, 0, 0, 0, 0, 0, 0), b""))
 status, out, err = ran(one_queue(1), [plain] * 400, 4)
 found = BOOK.fullmatch(out.decode())
 tally.check("four workers", (status, found and found.groups()[:10], err), (0, ("open", "0", "0", "400", "0", "0", "0", "0", "0", "0"), b""))

@@ -232,6 +232,9 @@ if replay:
     status, out, err = answer(words)
     instead(status, out, err + (answer(["explain", *replay])[1] if status else b""))
 '''), "messages.py", 'FAILED replay of {"limit":1, as ever'),
+    ("a full disk that is told as done", shell('[ "$1" = hash ] && { %s "$@" 2>/dev/null; exit 0; }' % program), "rooms.py", "FAILED hash with room for 0 bytes"),
+    ("requests that do not work", other_requests('s/"work": [0-9]+/"work": 0/g'), "turns.py", "FAILED five requests"),
+    ("one worker that has all requests", shell('[ "$1" = run ] && exec %s run "$2" "$3" 1 "$5" "$6"' % program), "turns.py", "FAILED the shares of 6 requests by 2 workers"),
     ("hands that are not spread", shell("""[ "$1" = hands ] && { %s "$@" | sed -E 's/ hand [0-9 ]* of / hand 0 1 2 3 4 5 6 7 8 9 10 11 of /'; exit 0; }""" % program), "dealing_table.py", "FAILED (12, 32, 4)"),
 ]
 

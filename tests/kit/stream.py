@@ -1,6 +1,8 @@
-"""Requests that run on a level as they come, over slots that are used again: drawn traces against the independent computation, each request once, with its
-queue, its times, its decision and its cost. Then long traces through a pipe: their sums, the time and the memory that they take."""
+"""Requests that run on a level as they come, over slots that are used again: drawn traces against the independent computation. `fates` has each request once, with
+its queue, its times and its decision. `timeline` has each end in its turn, and `simulate` the book. What a request was charged is told by how far it is
+misjudged when it runs for as long as one may. Then long traces through a pipe: their sums, the time and the memory that they take."""
 
+import collections
 import json
 import os
 import random
@@ -9,43 +11,24 @@ import sys
 
 HERE = os.path.dirname(os.path.dirname(os.path.abspath(__file__)))
 sys.path.insert(0, os.path.join(HERE, "lib"))
-from harness import Files, Memory, Tally, build_crate
-from simulation import Run
+import simulation
+from bound import sides, sides_of
+from charges import taken
+from harness import Files, Memory, Tally, build, run
+from simulation import Run, words_of
 from trace import request_of
 
 tally = Tally()
-program = build_crate("apf_trials")
+program = build()
 files = Files()
 # the same draws each time; APF_SEED draws others
 seed = int(os.environ.get("APF_SEED", "2043"))
-draw = random.Random(seed)
+draw, choose = random.Random(seed), random.Random(seed + 1)
 TRACES = int(os.environ.get("APF_TRACES", "1500"))
 MANY = int(os.environ.get("APF_REQUESTS", "1000000"))
+# the longest run of a request, in microseconds
+LONGEST = 10_000_000_000
 print(f"seed {seed}")
-DECISIONS = {
-    "execute": "Execute",
-    "queue-full": "QueueFull",
-    "cancelled": "Cancelled",
-    "concurrency-limit": "ConcurrencyLimit",
-}
-
-
-def ran(config, patience, charge, content, *more):
-    """What the program prints of the trace, its status, the most memory that it had, in KiB, and its seconds of a processor."""
-    words = [program, "streams", files("config", json.dumps(config)), str(patience), charge, *more]
-    with subprocess.Popen(words, stdin=subprocess.PIPE, stdout=subprocess.PIPE) as process:
-        memory = Memory(process)
-        try:
-            for piece in content:
-                process.stdin.write(piece)
-            process.stdin.close()
-        except BrokenPipeError:
-            # it ended before the trace did, and says why
-            pass
-        said = process.stdout.read().decode()
-        _, status, used = os.wait4(process.pid, 0)
-        process.returncode = os.waitstatus_to_exitcode(status)
-    return process.returncode, said, memory, used.ru_utime + used.ru_stime
 
 
 def drawn_level():
@@ -80,73 +63,126 @@ def drawn_objects():
     return objects
 
 
-def wanted(run):
-    """The line of each request, by the independent computation."""
-    entered = {request: queue for kind, request, queue in run.level.log if kind == "enter"}
-    over = {request: time for time, _, request in run.calls}
-    lines = []
-    for it, asked in enumerate(run.trace):
-        seated = [entered.get(it, "-"), run.started.get(it, "-")]
-        lines.append(
-            " ".join(map(str, [it + 1, asked["arrivesAt"], *seated, over[it], DECISIONS[run.level.decided[it]], run.asked[it]["cost"]])) + "\n"
-        )
-    return lines
+def printed(command, config, objects, patience, charge, *more):
+    """What the program does by a command on a level and the requests of these objects."""
+    content = b"".join(json.dumps(it).encode() + b"\n" for it in objects)
+    return run(program, [command, files("config", json.dumps(config)), files("trace", content), *words_of(patience, charge), *more])
 
 
-def counts(decided):
-    of = {name: decided.count(name) for name in DECISIONS}
-    return (
-        f"Counts {{ executed: {of['execute']}, queue_full: {of['queue-full']}, closed: 0, "
-        f"concurrency_limit: {of['concurrency-limit']}, cancelled: {of['cancelled']} }}\n"
-    )
+def told(lines):
+    return 0, "".join(f"{line}\n" for line in lines).encode(), b""
 
 
-met = {"rejected": 0, "gave up": 0, "waited and executed": 0, "another order than that of the lines": 0}
-for number in range(TRACES):
-    config, objects = drawn_level(), drawn_objects()
-    patience = draw.choice([0, 0, 1, 30, 100, 1000, 30_000])
-    charge = draw.choice(["time", "seats"])
-    run = Run(config, [request_of(it) for it in objects], patience, charge)
-    status, said, *_ = ran(config, patience, charge, [b"".join(json.dumps(it).encode() + b"\n" for it in objects)])
-    *told, book = said.splitlines(keepends=True)
-    decided = [run.level.decided[it] for it in range(len(objects))]
-    tally.check(
-        f"trace {number}",
-        (status, sorted(told, key=lambda line: int(line.split()[0])), book),
-        (0, wanted(run), counts(decided)),
-    )
-    ends = [int(line.split()[4]) for line in told]
-    tally.check(f"trace {number}, in the order of the ends", ends, sorted(ends))
-    met["rejected"] += "queue-full" in decided or "concurrency-limit" in decided
-    met["gave up"] += "cancelled" in decided
-    met["waited and executed"] += any(run.started.get(it, 0) > asked["arrivesAt"] for it, asked in enumerate(run.trace))
-    met["another order than that of the lines"] += objects != sorted(objects, key=lambda it: it["arrivesAt"])
-for what, how_many in met.items():
-    tally.check(f"{what} in a twentieth of the traces at least", how_many * 20 >= TRACES, True)
+def check_book(name, made, objects, charge):
+    """What `simulate` prints, and by time the two sides of the bound."""
+    more, line = (["--bound"], [sides(made).line()]) if charge == "time" else ([], [])
+    got = printed("simulate", made.config, objects, made.patience, charge, *more)
+    tally.check(f"simulate of {name}", got, told([*simulation.simulate(made), *line]))
 
 
-def long_trace(requests, flows=200):
-    """Pieces of a trace of this many requests, of which about nine in ten seats are taken."""
+def is_told(made, request):
+    """Whether the sides of the bound would be others if this one had cost one more."""
+    costs, took = [it["cost"] for it in made.asked], [taken(it["width"], it["runsFor"]) for it in made.trace]
+    before = sides_of(made.level, costs, took)
+    costs[request] += 1
+    return sides_of(made.level, costs, took).slack != before.slack
+
+
+def check_cost(name, made, objects):
+    """What one request was charged: it runs for the longest, so it is misjudged by nearly all of that. Answers whether a cost of one more would be seen."""
+    dispatched = [request for kind, request, _ in made.level.log if kind == "dispatch"]
+    if not dispatched:
+        return False
+    request = choose.choice(dispatched)
+    longer = [{**it, "runsFor": LONGEST} if number == request else it for number, it in enumerate(objects)]
+    again = Run(made.config, [request_of(it) for it in longer], made.patience, "time")
+    check_book(f"{name}, of which request {request} runs for the longest", again, longer, "time")
+    return is_told(again, request)
+
+
+def check_drawn():
+    """Each drawn trace by three commands."""
+    met = {"rejected": 0, "gave up": 0, "waited and executed": 0, "another order than that of the lines": 0, "a cost is told": 0}
+    for number in range(TRACES):
+        config, objects = drawn_level(), drawn_objects()
+        patience = draw.choice([0, 0, 1, 30, 100, 1000, 30_000])
+        charge = draw.choice(["time", "seats"])
+        made = Run(config, [request_of(it) for it in objects], patience, charge)
+        name = f"{number}: {config}, {objects}, patience {patience}, charged by {charge}"
+        tally.check(f"fates of {name}", printed("fates", config, objects, patience, charge), told(simulation.fates(made)))
+        tally.check(f"timeline of {name}", printed("timeline", config, objects, patience, charge), told(simulation.timeline(made)))
+        check_book(name, made, objects, charge)
+        decided = {*made.level.decided.values()}
+        met["rejected"] += "queue-full" in decided or "concurrency-limit" in decided
+        met["gave up"] += "cancelled" in decided
+        met["waited and executed"] += any(made.started.get(it, 0) > asked["arrivesAt"] for it, asked in enumerate(made.trace))
+        met["another order than that of the lines"] += objects != sorted(objects, key=lambda it: it["arrivesAt"])
+        met["a cost is told"] += charge == "time" and check_cost(name, made, objects)
+    print(", ".join(f"{what}: {how_many}" for what, how_many in met.items()))
+    for what, how_many in met.items():
+        tally.check(f"{what} in a twentieth of the traces at least: {how_many}", how_many * 20 >= TRACES, True)
+
+
+def long_trace(requests, counts, flows=20):
+    """Pieces of a trace of this many requests, of which about nine in ten seats are taken. How many each flow has is counted."""
     stream, lines = random.Random(7), []
     for number in range(requests):
-        lines.append('{"hash":%d,"arrivesAt":%d,"runsFor":%d}\n' % (stream.randrange(flows), 100 * number, stream.randrange(1, 9_000)))
+        flow = stream.randrange(flows)
+        counts[flow] += 1
+        lines.append('{"hash":%d,"arrivesAt":%d,"runsFor":%d}\n' % (flow, 100 * number, stream.randrange(1, 9_000)))
         if len(lines) == 10_000:
             yield "".join(lines).encode()
             lines.clear()
     yield "".join(lines).encode()
 
 
-LEVEL = {"limit": 49, "queues": 64, "handSize": 8, "queueLengthLimit": 50, "limitResponse": "Queue"}
-sizes = {}
-for requests in (MANY // 10, MANY):
-    status, said, memory, seconds = ran(LEVEL, 15_000_000, "time", long_trace(requests), "quiet")
-    tally.check(f"{requests} requests", (status, sum(int(it) for it in said.replace(",", " ").split() if it.isdigit())), (0, requests))
-    sizes[requests] = memory.most()
-    print(f"{requests} requests: {sizes[requests]} KiB, {seconds:.2f} s of a processor, {1e6 * seconds / requests:.2f} us a request")
-tally.check("memory does not grow by more than the window holds", sizes[MANY] <= sizes[MANY // 10] + 16_384, True)
+def ran(config, patience, charge, pieces):
+    """What `simulate` prints of a trace that it reads from a pipe, with its status, the most memory that it had, in KiB, and its seconds of a processor."""
+    words = [program, "simulate", files("config", json.dumps(config)), "-", *words_of(patience, charge)]
+    with subprocess.Popen(words, stdin=subprocess.PIPE, stdout=subprocess.PIPE) as process:
+        memory = Memory(process)
+        try:
+            for piece in pieces:
+                process.stdin.write(piece)
+            process.stdin.close()
+        except BrokenPipeError:
+            # it ended before the trace did, and says why
+            pass
+        said = process.stdout.read().decode()
+        _, status, used = os.wait4(process.pid, 0)
+        process.returncode = os.waitstatus_to_exitcode(status)
+    return process.returncode, said, memory, used.ru_utime + used.ru_stime
 
-crowd = b"".join(b'{"hash":%d,"arrivesAt":%d,"runsFor":1000000}\n' % (number, number // 1000) for number in range(10_001))
-CROWDED = {"limit": 1, "queues": 128, "handSize": 6, "queueLengthLimit": 1000, "limitResponse": "Queue"}
-status, said, *_ = ran(CROWDED, 0, "seats", [crowd], "quiet")
-tally.check("one more than there are slots", (status, said), (1, "more than 10000 requests are there at once\n"))
+
+def check_long():
+    """Two traces that are longer than the window, one of which is three times as long: each request of each flow is decided, and the memory is the same. Of
+    so few flows the waits are counted early."""
+    level = {"limit": 49, "queues": 64, "handSize": 8, "queueLengthLimit": 50, "limitResponse": "Queue"}
+    sizes = {}
+    for requests in (3 * MANY // 10, MANY):
+        counts = collections.Counter()
+        status, said, memory, seconds = ran(level, 15_000_000, "time", long_trace(requests, counts))
+        lines = [line.split() for line in said.splitlines()]
+        came = {int(it[1], 16): int(it[3]) for it in lines if it[0] == "flow"}
+        decided = [int(it[place]) for it in lines if it[0] == "executed" for place in (1, 3, 5, 7)]
+        tally.check(f"{requests} requests: the status, and the requests of each flow", (status, came), (0, counts))
+        tally.check(f"{requests} requests: each is decided: {decided}", (sum(decided[:3]), decided[3:]), (requests, [0]))
+        sizes[requests] = memory.most()
+        print(f"{requests} requests: {sizes[requests]} KiB, {seconds:.2f} s of a processor, {1e6 * seconds / requests:.2f} us a request")
+    tally.check(f"memory does not grow once the window is full: {sizes}", sizes[MANY] <= sizes[3 * MANY // 10] + 4_096, True)
+
+
+def check_crowd():
+    """One request more than there are slots."""
+    level = {"limit": 1, "queues": 128, "handSize": 6, "queueLengthLimit": 1000, "limitResponse": "Queue"}
+    crowd = [{"hash": number, "arrivesAt": number // 1000, "runsFor": 1_000_000} for number in range(10_001)]
+    said = b"apf: at line 10001, at 10, more than 10000 requests are there at once\n"
+    tally.check("one more than there are slots", printed("simulate", level, crowd, 0, "seats"), (1, b"", said))
+    status, out, err = printed("simulate", level, crowd[:-1], 0, "seats")
+    tally.check("as many as there are slots", (status, b"executed 10000 rejected 0 cancelled 0 undecided 0\n" in out, err), (0, True, b""))
+
+
+check_drawn()
+check_long()
+check_crowd()
 tally.end()

@@ -379,6 +379,14 @@ def turned_away(content, choice=EVERY):
     return sum(away for *_, away in requests), len(requests)
 
 
+def notes(unnamed, is_cut, away=0, of=0):
+    """What is said beside the trace of a good log: of so many chosen requests so many were turned away."""
+    nameless = f"apf: events without a user's name, as of a failed login, are left out: {unnamed}\n" if unnamed else ""
+    median = "each gets the median runsFor of those of its flow that ran, or of all that ran"
+    said = f"apf: {away} of {of} requests were turned away with status 429: {median}\n" if away else ""
+    return nameless + (f"{CUT}\n" if is_cut else "") + said
+
+
 def trace_of(content, schema, choice=EVERY):
     read = read_of(content, choice)
     if read.fault:

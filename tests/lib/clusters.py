@@ -3,7 +3,7 @@ cluster, and the independent lending of seats. A second cluster stands beside th
 
 import json
 
-from audit import Choice, Flow, Handed, namespace_of, read_of, text_at
+from audit import Choice, Flow, Handed, namespace_of, notes, read_of, text_at
 from audits import NOON, Logs, time_text
 from jsontext import json_text
 from lending import MOST, PERIOD, Lender, bounds_of, limit_of
@@ -527,9 +527,4 @@ def both_objects(first, second, flows):
 
 
 def notes_of(read):
-    said = b""
-    if read.unnamed:
-        said += f"apf: events without a user's name, as of a failed login, are left out: {read.unnamed}\n".encode()
-    if read.is_cut:
-        said += b"apf: the last line is left out: it has no LF at its end, and is not whole JSON\n"
-    return said
+    return notes(read.unnamed, read.is_cut).encode()

@@ -11,10 +11,10 @@ HERE = os.path.dirname(os.path.abspath(__file__))
 MOST = 120
 
 
-def shim(files):
+def shim(files, name="refuse"):
     """The path of what is loaded before the C library, compiled."""
-    path = files("refuse.so", b"")
-    subprocess.run(["cc", "-O1", "-shared", "-fPIC", "-o", path, os.path.join(HERE, "refuse.c")], check=True)
+    path = files(f"{name}.so", b"")
+    subprocess.run(["cc", "-O1", "-shared", "-fPIC", "-o", path, os.path.join(HERE, f"{name}.c")], check=True)
     return path
 
 

@@ -1,14 +1,31 @@
-//! The tests of `apf_audit`, and of `apf_values`, by which it reads a line, by their public calls alone, of what no run of the
-//! program shows. What is read of logs, and the traces that are written of it, is tested by `tests/audit.py`.
-//!
-//! - `faults`: the text of each fault.
-//! - `beside`: what requests are by the schemas of two clusters.
-//! - `ids`: the ids of requests, and what the server's own log says besides.
-//! - `texts`: a writer that fails.
-//! - `values`: what is found in usual lines, and in others.
+//! The texts of the faults of `apf_audit`: each command says more of a fault than its text.
 
-mod beside;
-mod faults;
-mod ids;
-mod texts;
-mod values;
+use crate::asserts::is;
+use apf_audit::AuditFault;
+use std::test::Fail;
+
+const TEXTS: [(AuditFault, &str); 12] = [
+    (AuditFault::TooLong(7), "line too long"),
+    (AuditFault::NotUtf8Json(7), "not JSON"),
+    (AuditFault::NotEvent(7), "not an audit event"),
+    (AuditFault::BadUser(7), "bad username"),
+    (AuditFault::BadReceived(7), "bad requestReceivedTimestamp"),
+    (AuditFault::BadStage(7), "bad stageTimestamp"),
+    (AuditFault::BadWait(7), "bad apf-queue-wait"),
+    (AuditFault::BadRun(7), "bad run"),
+    (AuditFault::BadArrival(7, 8), "arrives too late"),
+    (AuditFault::NoMemory, "out of memory"),
+    (AuditFault::BadNamespace(7), "bad namespace"),
+    (
+        AuditFault::TooLate(7),
+        "arrives more than 131072 requests late",
+    ),
+];
+
+#[test]
+fn texts(rt: HostRuntime) -> Result<(), Fail> {
+    for (fault, said) in TEXTS {
+        is(&rt, fault.to_string(rt.alloc())?.as_str(), said);
+    }
+    Ok(())
+}

@@ -1,13 +1,10 @@
-//! The tests of `apf_trace_reader`, by its public calls alone.
+//! The tests of `apf_trace_reader`, by its public calls alone, of what no run of the program shows: windows of few requests, and calls
+//! behind one that failed. `tests/pieces.py` and `tests/drawn.py` test the rest with the window of the program.
 //!
 //! - `calls`: what the others call.
-//! - `pieces`: an input that gives few bytes at a time, or fails.
-//! - `orders`: requests in the order of their arrivals, beside `read_trace`.
-//! - `faults`: the first fault, and its line.
-//! - `failures`: an input that fails, and memory that is refused.
+//! - `windows`: requests in the order of their arrivals.
+//! - `failures`: the next call behind a fault, behind an input that failed, and behind memory that was refused.
 
 mod calls;
 mod failures;
-mod faults;
-mod orders;
-mod pieces;
+mod windows;

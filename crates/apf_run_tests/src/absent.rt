@@ -1,15 +1,10 @@
 //! Commands and requests that name what is not there, and which no reader lets through.
 
 use crate::asserts::is;
-use crate::runs::Fault;
-use apf_run::{Command, Config, Request, Response, Running, Work, replay, run};
+use crate::fault::Fault;
+use crate::refused::{Nothing, REQUEST};
+use apf_run::{Command, Config, Response, replay, run};
 use apf_words::MAX_LIMIT;
-
-struct Nothing;
-
-impl Work for Nothing {
-    fn work(&self, _running: &Running, _units: u32) {}
-}
 
 const CONFIG: Config = Config {
     limit: 1,
@@ -17,14 +12,6 @@ const CONFIG: Config = Config {
     hand_size: 1,
     queue_length_limit: 10,
     limit_response: Response::Queue,
-};
-
-const REQUEST: Request = Request {
-    width: 1,
-    hash: 0,
-    work: 0,
-    cancels: None,
-    closes: false,
 };
 
 // Commands of requests that are not there, and limits out of range, do nothing and have no line.

@@ -7,13 +7,3 @@ use std::process::Abort;
 pub fn is<T: PartialEq + Debug + Drop>(rt: &impl Abort, found: T, want: T) {
     assert_eq!(rt; found, want);
 }
-
-/// As `is`, at a place that a failure tells.
-pub fn is_at<T: PartialEq + Debug + Drop, P: Debug + Drop>(
-    rt: &impl Abort,
-    found: T,
-    want: T,
-    place: P,
-) {
-    assert_eq!(rt; found, want, "at {place:?}");
-}

@@ -1,13 +1,12 @@
-//! The tests of `apf_run`, by its public calls alone.
+//! The tests of `apf_run`, by its public calls alone, that no script can make of the built program: of settings, requests and commands which no reader lets
+//! through, and of texts that it never prints.
 //!
-//! They stand in a crate of their own, as a crate with tests is proved twice.
+//! They stand in a crate of their own, as a crate with tests is proved twice. The others are in the scripts of `tests/`: `turns.py` has what workers do and when,
+//! `workers.py` and `rounds.py` what their books say, `memory.py` runs that are refused memory, and `rooms.py` writers without room.
 //!
-//! - `runs`: runs of the requests of a text.
-//! - `meeting`, `counting`: runs by workers, with work that looks at the others. `orders`: what a worker does first.
-//! - `writing`: writers without room. `absent`: numbers of what is not there. `refused`: what is out of range.
-//! - `faults`: which fault of the gate and the level is told as which, and what the faults print.
-//! - `asserts`: assertions as calls.
-//! - `rounds`: runs in rounds.
+//! - `refused`: what is out of range. `absent`: numbers of what is not there.
+//! - `texts`: what the faults print.
+//! - `asserts`: assertions as calls. `fault`: why a test came to nothing.
 #![tactic(auto)]
 
 #[cfg(test)]
@@ -15,18 +14,8 @@ mod absent;
 #[cfg(test)]
 mod asserts;
 #[cfg(test)]
-mod counting;
-#[cfg(test)]
-mod faults;
-#[cfg(test)]
-mod meeting;
-#[cfg(test)]
-mod orders;
+mod fault;
 #[cfg(test)]
 mod refused;
 #[cfg(test)]
-mod rounds;
-#[cfg(test)]
-mod runs;
-#[cfg(test)]
-mod writing;
+mod texts;

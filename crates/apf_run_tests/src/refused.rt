@@ -1,28 +1,35 @@
-//! What a run and a replay answer where settings, requests or workers are out of range, of which no reader lets the
-//! first two through.
+//! What a run, once and in rounds, and a replay answer where settings, requests or workers are out of range, of which no
+//! reader lets any through.
 
-ghost use Rattle.std.specs.Prelude.{◌<◌};
+ghost use Rattle.std.specs.Prelude.{◌<◌, All, IfOk};
+ghost use Rattle.apf_run.specs.RoundsPlans.{HasWidth};
 
 use crate::asserts::is;
-use crate::runs::Fault;
+use crate::fault::Fault;
+use apf_run::rounds::{Executing, Nobody, run_rounds};
 use apf_run::{
-    Config, GateFault, LevelFault, Request, Response, RunFault, Running, Work, replay, run,
+    Config, GateFault, LevelFault, Request, Response, RunFault, Running, Work, replay, rounds, run,
 };
-use std::alloc::Global;
+use std::alloc::{AllocError, Global};
 use std::sync::Wait;
 use std::thread::Threads;
 
-struct Nothing;
+/// No work.
+pub struct Nothing;
 
 impl Work for Nothing {
     fn work(&self, _running: &Running, _units: u32) {}
+}
+
+impl rounds::Work for Nothing {
+    fn work(&self, _executing: &Executing<'_>, _units: u32) {}
 }
 
 /// What a call answers.
 #[derive(Clone, Copy, Debug, PartialEq, Eq)]
 enum Told {
     /// A run: how many requests it executed.
-    Executed(u32),
+    Executed(u64),
     /// A replay.
     Replayed,
     Gate(GateFault),
@@ -55,7 +62,26 @@ fn ran<R: Wait + Threads + Sync>(
     requires { 0 < workers }
 {
     match run(rt, alloc, config, requests, workers, &Nothing) {
-        Ok(report) => Told::Executed(report.counts.executed),
+        Ok(report) => Told::Executed(u64::from(report.counts.executed)),
+        Err(fault) => told_of(fault),
+    }
+}
+
+// What two rounds of three requests by this many workers answer.
+fn ran_twice<R: Wait + Threads + Sync>(rt: &R, alloc: Global, config: &Config, workers: u32) -> Told
+    requires { 0 < workers }
+{
+    match run_rounds(
+        rt,
+        alloc,
+        config,
+        &[REQUEST, REQUEST, REQUEST],
+        workers,
+        2,
+        &Nothing,
+        &mut Nobody,
+    ) {
+        Ok(report) => Told::Executed(report.words.counts().executed),
         Err(fault) => told_of(fault),
     }
 }
@@ -81,6 +107,11 @@ const NO_HAND: Config = Config {
     ..CONFIG
 };
 
+const NO_ROOM: Config = Config {
+    queue_length_limit: 0,
+    ..CONFIG
+};
+
 const NOTHING: Config = Config {
     limit: 0,
     queues: 0,
@@ -89,7 +120,8 @@ const NOTHING: Config = Config {
     limit_response: Response::Queue,
 };
 
-const REQUEST: Request = Request {
+/// A request of one seat.
+pub const REQUEST: Request = Request {
     width: 1,
     hash: 0,
     work: 0,
@@ -107,8 +139,7 @@ const WIDE: Request = Request {
     ..REQUEST
 };
 
-// A run of nobody ends, and as many workers as there may be run as well as one. No setting of queues is used where
-// nobody is queued.
+// As many workers as there may be run. No setting of queues is used where nobody is queued.
 #[test]
 fn runs_in_range(rt: HostRuntime) {
     let alloc = rt.alloc();
@@ -117,18 +148,11 @@ fn runs_in_range(rt: HostRuntime) {
         limit_response: Response::Reject,
         ..NOTHING
     };
-    is(&rt, ran(&rt, alloc, &CONFIG, &[], 1), Told::Executed(0));
-    is(
-        &rt,
-        ran(&rt, alloc, &CONFIG, &[REQUEST; 3], 64),
-        Told::Executed(3),
-    );
-    is(
-        &rt,
-        ran(&rt, alloc, &no_queues, &[REQUEST; 3], 1),
-        Told::Executed(3),
-    );
-    is(&rt, replayed(alloc, &CONFIG, &[]), Told::Replayed);
+    let three = Told::Executed(3);
+    is(&rt, ran(&rt, alloc, &CONFIG, &[REQUEST; 3], 64), three);
+    is(&rt, ran(&rt, alloc, &no_queues, &[REQUEST; 3], 1), three);
+    is(&rt, ran_twice(&rt, alloc, &CONFIG, 64), Told::Executed(6));
+    is(&rt, ran_twice(&rt, alloc, &no_queues, 1), Told::Executed(6));
     is(
         &rt,
         replayed(alloc, &no_queues, &[REQUEST; 3]),
@@ -147,6 +171,7 @@ fn bad_limits(rt: HostRuntime) {
     };
     is(&rt, ran(&rt, alloc, &NOTHING, &[], 1), told);
     is(&rt, ran(&rt, alloc, &over, &[WIDE], 65), told);
+    is(&rt, ran_twice(&rt, alloc, &NOTHING, 65), told);
     is(&rt, replayed(alloc, &NOTHING, &[]), told);
     is(&rt, replayed(alloc, &over, &[WIDE]), told);
 }
@@ -163,6 +188,13 @@ fn bad_widths(rt: HostRuntime) {
     is(&rt, ran(&rt, alloc, &CONFIG, &[WIDE], 1), told);
 }
 
+// This many requests, all alike.
+fn copies(alloc: Global, count: usize) -> Result<Vec<Request>, AllocError>
+    ensures { IfOk result (λ v. All HasWidth v.items) }
+{
+    vec![in alloc; REQUEST; count]
+}
+
 // There are 64 workers and 10,000 requests at most, and one more comes before the settings of queues.
 #[test]
 fn too_many(rt: HostRuntime) -> Result<(), Fault> {
@@ -170,9 +202,21 @@ fn too_many(rt: HostRuntime) -> Result<(), Fault> {
     let told = Told::Gate(GateFault::TooMany);
     is(&rt, ran(&rt, alloc, &CONFIG, &[REQUEST; 3], 65), told);
     is(&rt, ran(&rt, alloc, &NO_HAND, &[], u32::MAX), told);
-    let requests = vec![in alloc; REQUEST; 10_001]?;
+    is(&rt, ran_twice(&rt, alloc, &NO_HAND, 65), told);
+    let requests = copies(alloc, 10_001)?;
     is(&rt, ran(&rt, alloc, &NO_HAND, requests.as_slice(), 1), told);
     is(&rt, replayed(alloc, &NO_HAND, requests.as_slice()), told);
+    let in_rounds = run_rounds(
+        &rt,
+        alloc,
+        &CONFIG,
+        requests.as_slice(),
+        1,
+        1,
+        &Nothing,
+        &mut Nobody,
+    );
+    is(&rt, in_rounds.err().map(told_of), Some(told));
     Ok(())
 }
 
@@ -182,14 +226,10 @@ fn bad_queues(rt: HostRuntime) {
     let alloc = rt.alloc();
     let large_hand = Config {
         hand_size: 5,
-        queue_length_limit: 0,
-        ..CONFIG
-    };
-    let no_room = Config {
-        queue_length_limit: 0,
-        ..CONFIG
+        ..NO_ROOM
     };
     is(&rt, ran(&rt, alloc, &NO_HAND, &[], 64), Told::Dealer(1));
+    is(&rt, ran_twice(&rt, alloc, &NO_HAND, 1), Told::Dealer(1));
     is(
         &rt,
         ran(&rt, alloc, &large_hand, &[REQUEST], 1),
@@ -200,6 +240,7 @@ fn bad_queues(rt: HostRuntime) {
         replayed(alloc, &large_hand, &[REQUEST]),
         Told::Dealer(2),
     );
-    is(&rt, ran(&rt, alloc, &no_room, &[], 1), Told::Queues(1));
-    is(&rt, replayed(alloc, &no_room, &[]), Told::Queues(1));
+    is(&rt, ran(&rt, alloc, &NO_ROOM, &[], 1), Told::Queues(1));
+    is(&rt, ran_twice(&rt, alloc, &NO_ROOM, 1), Told::Queues(1));
+    is(&rt, replayed(alloc, &NO_ROOM, &[]), Told::Queues(1));
 }

@@ -8,7 +8,7 @@ mod answers;
 mod memory;
 mod stress;
 
-use crate::unknown;
+use crate::shared::{number, unknown};
 use std::env::Args;
 use std::io;
 use std::sync::Wait;
@@ -35,8 +35,8 @@ pub fn make<R: Threads + Wait + Sync>(
     match course.as_str() {
         "memory" => memory::call(rt, runner),
         "stress" => {
-            let seed = words.next().and_then(|word| word.parse::<u64>().ok());
-            let requests = words.next().and_then(|word| word.parse::<u32>().ok());
+            let seed = number(words);
+            let requests = number(words).and_then(|count| u32::try_from(count).ok());
             stress::load(rt, runner, seed, requests)
         }
         _ => unknown(rt),

@@ -6,7 +6,7 @@
 mod memory;
 pub mod rounds;
 
-use crate::unknown;
+use crate::shared::{number, unknown};
 use std::env::Args;
 use std::io;
 use std::sync::Wait;
@@ -21,10 +21,7 @@ pub fn make<R: Wait>(rt: &HostRuntime, runner: &R, words: &mut Args) -> io::Resu
     };
     match course.as_str() {
         "memory" => memory::call(rt, runner),
-        "rounds" => {
-            let rounds = words.next().and_then(|word| word.parse::<u64>().ok());
-            rounds::call(rt, runner, rounds.unwrap_or(ROUNDS))
-        }
+        "rounds" => rounds::call(rt, runner, number(words).unwrap_or(ROUNDS)),
         _ => unknown(rt),
     }
 }

@@ -2,7 +2,7 @@
 
 mod script;
 
-use crate::NO_MEMORY;
+use crate::shared::NO_MEMORY;
 use apf_local::{LocalLevel, OpenFault};
 use apf_model::{Config, Response};
 use script::{SCRIPT, take_step};

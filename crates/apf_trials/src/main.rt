@@ -1,30 +1,28 @@
-//! Trials that scripts judge, each by its first word:
+//! Trials that scripts judge, and measures, each by its first word:
 //!
 //! - `levels`: a level of threads: its calls while memory is refused, and a level under load.
 //! - `lives`: a level whose slots are used again: its calls while memory is refused, and many rounds.
 //! - `locals`: four levels in one `Vec`, which one thread serves in turn.
-//! - `streams`: the trace of standard input on a level as it comes.
-//! - `audits`: the trace of the audit log of standard input.
+//! - `bench`: how long requests take by this code and by other code, in a number of rounds.
 //!
-//! With no word each is made once, on the files of the folder `data`.
+//! With no word each is made once, and it is measured in one round. `shared` has what they have in common.
 #![tactic(auto)]
 
-mod audits;
+mod bench;
 mod levels;
 mod lives;
 mod locals;
-mod streams;
+mod shared;
 
+use shared::{NO_MEMORY, number, unknown};
 use std::process::ExitCode;
 use std::sync::Wait;
 use std::thread::Threads;
+use std::time::Clock;
 use std::{env, io};
 
-/// The status where memory was refused.
-pub const NO_MEMORY: u8 = 3;
-
 // Makes each trial once, and answers the status of the first that fails.
-fn all<R: Threads + Wait + Sync>(rt: &HostRuntime, runner: &R) -> io::Result<u8> {
+fn all<R: Threads + Clock + Wait + Sync>(rt: &HostRuntime, runner: &R) -> io::Result<u8> {
     let status = levels::both(rt, runner)?;
     if status != 0 {
         return Ok(status);
@@ -37,15 +35,11 @@ fn all<R: Threads + Wait + Sync>(rt: &HostRuntime, runner: &R) -> io::Result<u8>
     if status != 0 {
         return Ok(status);
     }
-    let status = streams::example(rt)?;
-    if status != 0 {
-        return Ok(status);
-    }
-    audits::example(rt)
+    bench::measure(rt, runner, None)
 }
 
 // Makes the trial that the words name, and answers the program's status.
-fn make<R: Threads + Wait + Sync>(rt: &HostRuntime, runner: &R) -> io::Result<u8> {
+fn make<R: Threads + Clock + Wait + Sync>(rt: &HostRuntime, runner: &R) -> io::Result<u8> {
     let mut words = match env::args(rt) {
         Ok(words) => words,
         Err(error) => return refuse(rt, error.kind()),
@@ -58,8 +52,7 @@ fn make<R: Threads + Wait + Sync>(rt: &HostRuntime, runner: &R) -> io::Result<u8
         "levels" => levels::make(rt, runner, &mut words),
         "lives" => lives::make(rt, runner, &mut words),
         "locals" => locals::run(rt),
-        "streams" => streams::make(rt, &mut words),
-        "audits" => audits::make(rt, &mut words),
+        "bench" => bench::measure(rt, runner, number(&mut words)),
         _ => unknown(rt),
     }
 }
@@ -71,12 +64,6 @@ fn refuse(rt: &HostRuntime, kind: io::ErrorKind) -> io::Result<u8> {
         return Ok(NO_MEMORY);
     }
     unknown(rt)
-}
-
-/// Says that there is no such trial, and answers the status of that.
-pub fn unknown(rt: &HostRuntime) -> io::Result<u8> {
-    eprintln!(rt; "no such trial")?;
-    Ok(2)
 }
 
 fn main(rt: HostRuntime) -> ExitCode {

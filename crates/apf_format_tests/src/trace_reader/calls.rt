@@ -1,9 +1,11 @@
 //! What the tests call.
 
+use crate::asserts::is;
 use apf_trace_reader::{ReadFault, TraceReader};
 use apf_traces::TraceFault;
-use std::alloc::{AllocError, Global};
+use std::alloc::Global;
 use std::io::Read;
+use std::process::Abort;
 use std::test::Fail;
 
 /// What a reader answered: a request's arrival and line, the end, a fault, or that the input failed.
@@ -15,8 +17,10 @@ pub enum Told {
     CannotRead,
 }
 
-/// What the next call answers.
-pub fn next<R: Read>(reader: &mut TraceReader, input: &mut R) -> Told {
+const REFUSED: Told = Told::Fault(TraceFault::NoMemory);
+
+// What the next call answers.
+fn next<R: Read>(reader: &mut TraceReader, input: &mut R) -> Told {
     match reader.next(input) {
         Ok(Some(first)) => Told::Request(first.place.arrives_at, first.place.line),
         Ok(None) => Told::End,
@@ -25,26 +29,23 @@ pub fn next<R: Read>(reader: &mut TraceReader, input: &mut R) -> Told {
     }
 }
 
-/// All that is answered of this input, where lines may come this many places late, up to the end or a fault.
-pub fn told_of<R: Read>(alloc: Global, size: usize, input: &mut R) -> Result<Vec<Told>, Fail> {
+/// Asserts that these are the answers of a new reader, where lines may come so many places late. Where memory is refused, and it may
+/// be, the next call counts. Answers the reader.
+pub fn reads<R: Read>(
+    rt: &impl Abort,
+    alloc: Global,
+    size: usize,
+    input: &mut R,
+    answers: &[Told],
+    may_be_refused: bool,
+) -> Result<TraceReader, Fail> {
     let mut reader = TraceReader::new(alloc, size)?;
-    let mut all = Vec::new(alloc);
-    for _ in 0..10_000 {
-        let told = next(&mut reader, input);
-        all.push(told)?;
-        if !matches!(told, Told::Request(_, _)) {
-            break;
+    for want in answers {
+        let mut told = next(&mut reader, input);
+        if may_be_refused && told == REFUSED {
+            told = next(&mut reader, input);
         }
+        is(rt, told, *want);
     }
-    Ok(all)
-}
-
-/// A trace whose requests arrive at these times, one line for each.
-pub fn trace(alloc: Global, times: &[u64]) -> Result<String, AllocError> {
-    let mut text = String::new(alloc);
-    for at in times {
-        let line = format!(in alloc; "{{\"hash\":7,\"runsFor\":1,\"arrivesAt\":{at}}}\n")?;
-        text.push_str(line.as_str())?;
-    }
-    Ok(text)
+    Ok(reader)
 }

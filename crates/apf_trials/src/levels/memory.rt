@@ -11,46 +11,25 @@
 mod calls;
 mod course;
 
-use crate::NO_MEMORY;
-use apf_session::OpenFault;
+use crate::shared::{tell_end, tell_fault};
 use course::{Course, run};
 use std::io;
 use std::sync::Wait;
 
-// Tells what became of the level, and answers the program's status.
-fn tell(rt: &HostRuntime, told: Result<Course, OpenFault>) -> io::Result<u8> {
-    let Course { answers, end } = match told {
-        Ok(course) => course,
-        Err(OpenFault::NoMemory) => {
-            eprintln!(rt; "out of memory")?;
-            return Ok(NO_MEMORY);
-        }
-        Err(_) => {
-            eprintln!(rt; "the settings were refused")?;
-            return Ok(1);
-        }
-    };
-    for answer in answers {
-        println!(rt; "{answer:?}")?;
-    }
-    match end {
-        Ok(counts) => {
-            println!(rt; "{counts:?}")?;
-            Ok(0)
-        }
-        Err(_refused) => {
-            eprintln!(rt; "out of memory at the end")?;
-            Ok(NO_MEMORY)
-        }
-    }
-}
-
-/// Makes the calls, and answers the program's status.
+/// Makes the calls, tells what became of the level, and answers the program's status.
 ///
 /// # Errors
 ///
 /// Why it could not be written.
 pub fn call<R: Wait>(rt: &HostRuntime, runner: &R) -> io::Result<u8> {
-    let told = run(runner, rt.alloc());
-    tell(rt, told)
+    match run(runner, rt.alloc()) {
+        Ok(course) => {
+            let Course { answers, end } = course;
+            for answer in answers {
+                println!(rt; "{answer:?}")?;
+            }
+            tell_end(rt, end)
+        }
+        Err(fault) => tell_fault(rt, fault),
+    }
 }

@@ -7,11 +7,11 @@
 ghost use Rattle.std.specs.Prelude.{◌≡◌, ◌<◌};
 ghost use Rattle.apf_session.specs.LifeOpenings.{level_of};
 
-use crate::NO_MEMORY;
+use crate::shared::{one_queue, tell_end, tell_fault};
 use apf_book::{LifeEvent, LifeStats};
 use apf_gate::{Cancel, Close, Counts, Ticket};
 use apf_level::life::Naming;
-use apf_model::{Ask, Config, Response};
+use apf_model::Ask;
 use apf_session::life::{Answer, OpenFault, Opening, Session};
 use std::alloc::{AllocError, Global};
 use std::io;
@@ -122,51 +122,25 @@ fn run_named<K: Naming, R: Wait>(
 
 // Opens a level of one seat and one queue, makes the calls, and ends it.
 fn open<R: Wait>(rt: &R, alloc: Global) -> Result<Course, OpenFault> {
-    let config = Config {
-        limit: 1,
-        queues: 1,
-        hand_size: 1,
-        queue_length_limit: 10,
-        limit_response: Response::Queue,
-    };
+    let config = one_queue(1, 10);
     let opening = Opening::new(alloc, &config, 3, 1)?;
     run_named::<Brand, R>(rt, alloc, opening)
 }
 
-// Tells what became of the level, and answers the program's status.
-fn tell(rt: &HostRuntime, course: Result<Course, OpenFault>) -> io::Result<u8> {
-    let Course { told, end } = match course {
-        Ok(course) => course,
-        Err(OpenFault::NoMemory) => {
-            eprintln!(rt; "out of memory")?;
-            return Ok(NO_MEMORY);
-        }
-        Err(_) => {
-            eprintln!(rt; "the settings were refused")?;
-            return Ok(1);
-        }
-    };
-    for answer in told {
-        println!(rt; "{answer:?}")?;
-    }
-    match end {
-        Ok(counts) => {
-            println!(rt; "{counts:?}")?;
-            Ok(0)
-        }
-        Err(_refused) => {
-            eprintln!(rt; "out of memory at the end")?;
-            Ok(NO_MEMORY)
-        }
-    }
-}
-
-/// Makes the calls, and answers the program's status.
+/// Makes the calls, tells what became of the level, and answers the program's status.
 ///
 /// # Errors
 ///
 /// Why it could not be written.
 pub fn call<R: Wait>(rt: &HostRuntime, runner: &R) -> io::Result<u8> {
-    let course = open(runner, rt.alloc());
-    tell(rt, course)
+    match open(runner, rt.alloc()) {
+        Ok(course) => {
+            let Course { told, end } = course;
+            for answer in told {
+                println!(rt; "{answer:?}")?;
+            }
+            tell_end(rt, end)
+        }
+        Err(fault) => tell_fault(rt, fault),
+    }
 }

@@ -4,7 +4,7 @@
 ghost use Rattle.std.specs.Prelude.{◌≡◌};
 ghost use Rattle.apf_session.specs.LifeOpenings.{level_of};
 
-use crate::NO_MEMORY;
+use crate::shared::tell_fault;
 use apf_gate::Counts;
 use apf_level::life::Naming;
 use apf_model::{Ask, Config, Response};
@@ -100,9 +100,6 @@ pub fn call<R: Wait>(rt: &HostRuntime, runner: &R, rounds: u64) -> io::Result<u8
             println!(rt; "{counts:?}")?;
             Ok(0)
         }
-        Err(_) => {
-            eprintln!(rt; "out of memory")?;
-            Ok(NO_MEMORY)
-        }
+        Err(fault) => tell_fault(rt, fault),
     }
 }

@@ -5,9 +5,9 @@ ghost use Rattle.apf_session.specs.Openings.{level_of};
 
 use crate::levels::answers::Answer;
 use crate::levels::memory::calls::{CALLS, make};
-use apf_book::{Ask, Config};
+use crate::shared::one_queue;
+use apf_book::Ask;
 use apf_level::{Counts, Naming};
-use apf_model::Response;
 use apf_session::{OpenFault, Opening, Session};
 use std::alloc::{AllocError, Global};
 use std::marker::Brand;
@@ -41,13 +41,7 @@ fn run_named<K: Naming, R: Wait>(
 ///
 /// Why the level was not opened. Then no call was made.
 pub fn run<R: Wait>(rt: &R, alloc: Global) -> Result<Course, OpenFault> {
-    let config = Config {
-        limit: 1,
-        queues: 1,
-        hand_size: 1,
-        queue_length_limit: 10,
-        limit_response: Response::Queue,
-    };
+    let config = one_queue(1, 10);
     let asks = [Ask { width: 1, hash: 7 }; 4];
     let opening = Opening::new(alloc, &config, &asks, 1)?;
     run_named::<Brand, R>(rt, alloc, opening)

@@ -1,6 +1,0 @@
--- The gate that was opened is the level's.
-use Rattle.apf_session.specs.LifeOpenings.{level_of}
-use Rattle.apf_bench.proofs.life.by_life.Given as goal
-
-abbrev pub ghosts-run_named : goal.ghosts-run_named
-ghosts-run_named g a = record { level = level_of a.opening.gate a.opening.config }
